@@ -1,0 +1,89 @@
+-- The masks, and `&`, `|` and `!` with one, in the words of `bit` and `setBit`.
+-- Assumes nothing.
+use mathlib.Core.Path.{_≡_, refl, sym, ap, ap₂, _∙_}
+use mathlib.Core.Bool.{true, false, not}
+use mathlib.Core.List.{List, [], _∷_}
+use Prim.Native.Nat.{ℕ, zero, suc, _+_, _-_, _*_, _/_, _%_, _^_, _<_, max}
+use native.Mathlib.Nat.{mod-lt, mod-mod, mod-eq-of-lt, add-zero}
+use native.Mathlib.Omega.{arith}
+use borrow.Author.Tests.{ne-eqb}
+use lib.Dec.{eqb}
+use lib.ListN.{getD}
+use lib.Pow.{pow-pos, split, ones-lt}
+use lib.Bits.{bitAnd, bitOr, and-mask, and-block, and-high, or-block, or-step, or-zero-r, and-zero-r}
+use Rattle.wire.specs.Bits.{bit, setBit}
+use Rattle.wire.proofs.BitLaws.{each8}
+
+abbrev pub masks : List ℕ
+masks = 1 ∷ 2 ∷ 4 ∷ 8 ∷ 16 ∷ 32 ∷ 64 ∷ 128 ∷ []
+
+pub mask-at : (k : ℕ) → k < 8 → getD masks k 0 ≡ 2 ^ k
+mask-at = each8 (λ (k : ℕ). getD masks k 0 ≡ 2 ^ k) refl refl refl refl refl refl refl refl
+
+-- ---- `x | m`
+-- a power of two, as a block of k bits
+as-block : (k : ℕ) → 2 ^ k ≡ 1 * 2 ^ k + 0
+as-block k = omega arith
+
+or-one : (q : ℕ) → bitOr q 1 ≡ q / 2 * 2 + 1
+or-one q = or-step q 1 ∙ ap₂ (λ (x y : ℕ). x * 2 + y) (or-zero-r (q / 2)) most
+  where
+    most : max (q % 2) 1 ≡ 1
+    most = omega arith
+
+pub or-bit : (x k : ℕ) → bitOr x (2 ^ k) ≡ setBit x k true
+unfolding setBit
+or-bit x k =
+    ap₂ (λ (a b : ℕ). bitOr a b) (sym (split x k)) (as-block k)
+    ∙ or-block k (x / 2 ^ k) 1 (x % 2 ^ k) 0 (mod-lt x (pow-pos k)) (pow-pos k)
+    ∙ ap₂ (λ (a b : ℕ). a * 2 ^ k + b) (or-one (x / 2 ^ k)) (or-zero-r (x % 2 ^ k))
+
+-- ---- `x & m != 0`
+and-bit : (x k : ℕ) → bitAnd x (2 ^ k) ≡ bit x k * 2 ^ k
+unfolding bit
+and-bit x k =
+    ap₂ (λ (a b : ℕ). bitAnd a b) (sym (split x k)) (as-block k)
+    ∙ and-block k (x / 2 ^ k) 1 (x % 2 ^ k) 0 (mod-lt x (pow-pos k)) (pow-pos k)
+    ∙ ap₂ (λ (a b : ℕ). a * 2 ^ k + b) (and-mask (x / 2 ^ k) 1) (and-zero-r (x % 2 ^ k))
+    ∙ omega arith
+
+pub bit-lt : (x k : ℕ) → bit x k < 2
+unfolding bit
+bit-lt x k = omega arith
+
+pub and-test : (x k : ℕ) → not (eqb (bitAnd x (2 ^ k)) 0) ≡ eqb (bit x k) 1
+and-test x k = ap (λ (n : ℕ). not (eqb n 0)) (and-bit x k) ∙ go (bit x k) (bit-lt x k)
+  where
+    go : (b : ℕ) → b < 2 → not (eqb (b * 2 ^ k) 0) ≡ eqb b 1
+    go zero h = let e : 0 * 2 ^ k ≡ 0 = omega arith in rw e
+    go (suc zero) h =
+        let e : 1 * 2 ^ k ≡ 0 → ⊥ = λ z. omega (arith, pow-pos k) in
+        rw (ne-eqb (1 * 2 ^ k) 0 e)
+    go (suc (suc b)) h = absurd (omega arith)
+
+-- ---- `x & !m`
+-- the ones above bit k and below it
+not-mask : (k : ℕ) → k < 8 → 255 - 2 ^ k ≡ (2 ^ (7 - k + 1) - 2 ^ 1) * 2 ^ k + (2 ^ k - 1)
+not-mask =
+    each8 (λ (k : ℕ). 255 - 2 ^ k ≡ (2 ^ (7 - k + 1) - 2 ^ 1) * 2 ^ k + (2 ^ k - 1)) refl refl refl refl refl refl refl refl
+
+top-lt : (x k : ℕ) → k < 8 → x < 256 → x / 2 ^ k / 2 < 2 ^ (7 - k)
+top-lt x =
+    each8 (λ (k : ℕ). x < 256 → x / 2 ^ k / 2 < 2 ^ (7 - k))
+    (λ h. omega arith)
+    (λ h. omega arith)
+    (λ h. omega arith)
+    (λ h. omega arith)
+    (λ h. omega arith)
+    (λ h. omega arith)
+    (λ h. omega arith)
+    (λ h. omega arith)
+
+pub and-not : (x k : ℕ) → x < 256 → k < 8 → bitAnd x (255 - 2 ^ k) ≡ setBit x k false
+unfolding setBit
+and-not x k hx hk =
+    ap₂ (λ (a b : ℕ). bitAnd a b) (sym (split x k)) (not-mask k hk)
+    ∙ and-block k (x / 2 ^ k) (2 ^ (7 - k + 1) - 2 ^ 1) (x % 2 ^ k) (2 ^ k - 1) (mod-lt x (pow-pos k)) (ones-lt k)
+    ∙ ap₂ (λ (a b : ℕ). a * 2 ^ k + b)
+    (and-high (x / 2 ^ k) (7 - k) 1 ∙ ap (λ (n : ℕ). n * 2) (mod-eq-of-lt (top-lt x k hk hx)) ∙ sym (add-zero (x / 2 ^ k / 2 * 2)))
+    (and-mask (x % 2 ^ k) k ∙ mod-mod x (2 ^ k))

@@ -1,0 +1,5 @@
+pub mod BitOps
+pub mod Laws
+pub mod HistoryLaws
+pub mod BatchLaws
+pub mod Copies

@@ -1,0 +1,125 @@
+// The permission table: 2,048 bytes, row a at byte 16a. In a row, group j is bit j mod 8 of byte 15 - j/8.
+use wire::ZoneGroup;
+ghost use mathlib.Core.Path.{_≡_};
+ghost use Prim.Native.Nat.{_+_, _*_, _%_, _^_, _≤_, _<_};
+ghost use lib.ListN.{length, drop};
+ghost use lib.Seq.{paste};
+ghost use Rattle.wire.specs.Bits.{setBit};
+ghost use Rattle.permit.specs.Permission.{P, setP, setBoth, startByte, startTable, Whole};
+ghost use Rattle.permit.specs.Orders.{apply, rowOrders, batchOrders};
+
+// The bit of a group within its byte.
+const MASKS: [u8; 8] = [1, 2, 4, 8, 16, 32, 64, 128];
+
+fn mask(group: usize) -> u8
+    ensures { λ r. ⌜ r ≡ 2 ^ (group % 8) ⌝ }
+{
+    MASKS[group % 8]
+}
+
+// Group `group` of row `row` in any rows of sixteen bytes, the table's or a request's.
+fn row_has(rows: &[u8], row: usize, group: usize) -> bool
+    requires { ⌜ (16 * row + 16 ≤ length (now rows)) × (group < 128) ⌝ }
+    ensures { λ r. ⌜ r ≡ P 16 (now (rows .entry)) row group ⌝ }
+{
+    rows[row * 16 + (15 - group / 8)] & mask(group) != 0
+}
+
+// Whether a may reach b.
+pub fn permitted(permissions: &[u8], a: ZoneGroup, b: ZoneGroup) -> bool
+    requires { ⌜ Whole 16 (now permissions) (a .0) (b .0) ⌝ }
+    ensures { λ r. ⌜ r ≡ P 16 (now (permissions .entry)) (a .0) (b .0) ⌝ }
+{
+    row_has(permissions, a.0 as usize, b.0 as usize)
+}
+
+fn with_group(x: u8, group: usize, on: bool) -> u8
+    ensures { λ r. ⌜ r ≡ setBit x (group % 8) on ⌝ }
+{
+    let m = mask(group);
+    if on { x | m } else { x & !m }
+}
+
+fn write_one(permissions: &mut [u8], a: ZoneGroup, b: ZoneGroup, on: bool)
+    requires { ⌜ Whole 16 (now permissions) (a .0) (b .0) ⌝ }
+    ensures { λ _. ⌜ now (permissions .exit) ≡ setP 16 (now (permissions .entry)) (a .0) (b .0) on ⌝ }
+{
+    let row = a.0 as usize;
+    let group = b.0 as usize;
+    let at = row * 16 + (15 - group / 8);
+    permissions[at] = with_group(permissions[at], group, on);
+}
+
+// One single order: both places of the pair.
+pub fn write_both(permissions: &mut [u8], a: ZoneGroup, b: ZoneGroup, on: bool)
+    requires { ⌜ Whole 16 (now permissions) (a .0) (b .0) ⌝ }
+    ensures { λ _. ⌜ now (permissions .exit) ≡ setBoth 16 (now (permissions .entry)) (a .0) (b .0) on ⌝ }
+{
+    write_one(permissions, a, b, on);
+    write_one(permissions, b, a, on);
+}
+
+fn start_byte(i: usize) -> u8
+    ensures { λ r. ⌜ r ≡ startByte 16 i ⌝ }
+{
+    if i / 16 == 1 {
+        return 255;
+    }
+    if i % 16 == 15 {
+        return 2;
+    }
+    0
+}
+
+// Group 1 reaches all groups, group 0 only group 1; no group but 1 reaches itself until ordered to.
+pub fn start_table(permissions: &mut [u8])
+    requires { ⌜ length (now permissions) ≡ 2048 ⌝ }
+    ensures { λ _. ⌜ now (permissions .exit) ≡ startTable 16 ⌝ }
+{
+    let mut at: usize = 0;
+    while at < 2048 {
+        permissions[at] = start_byte(at);
+        at += 1;
+    }
+}
+
+// Row i of a batch's rows, for the group r: each group from 2 on, both ways.
+fn batch_row(permissions: &mut [u8], rows: &[u8], i: usize, r: ZoneGroup)
+    requires { ⌜ (length (now permissions) ≡ 2048) × (16 * i + 16 ≤ length (now rows)) × (r .0 < 128) ⌝ }
+    ensures { λ _. ⌜ now (permissions .exit) ≡ apply 16 (rowOrders (P 16 (now (rows .entry)) i) (r .0) 2 126) (now (permissions .entry)) ⌝ }
+{
+    let mut j: u8 = 2;
+    while j < 128 {
+        let on = row_has(rows, i, j as usize);
+        write_both(permissions, r, ZoneGroup(j), on);
+        j += 1;
+    }
+}
+
+// The count rows of a request from byte 12 on, in order, so that a later row overrides.
+pub fn batch(permissions: &mut [u8], request: &[u8], start: ZoneGroup, count: u8)
+    requires { ⌜ (length (now permissions) ≡ 2048) × (12 + 16 * count ≤ length (now request)) × (start .0 + count ≤ 128) ⌝ }
+    ensures { λ _. ⌜ now (permissions .exit) ≡ apply 16 (batchOrders 16 (drop 12 (now (request .entry))) (start .0) 0 count) (now (permissions .entry)) ⌝ }
+{
+    let rows = &request[12..];
+    let mut i: u8 = 0;
+    while i < count {
+        let r = start.0 + i;
+        batch_row(permissions, rows, i as usize, ZoneGroup(r));
+        i += 1;
+    }
+}
+
+// Copies the count rows from start on into a response, from byte 12 on.
+pub fn report_rows(permissions: &[u8], start: ZoneGroup, count: u8, response: &mut [u8])
+    requires { ⌜ (length (now permissions) ≡ 2048) × (start .0 + count ≤ 128) × (12 + 16 * count ≤ length (now response)) ⌝ }
+    ensures { λ _. ⌜ now (response .exit) ≡ paste (now (response .entry)) 12 (drop (16 * (start .0)) (now (permissions .entry))) (16 * count) ⌝ }
+{
+    let from = (start.0 as usize) * 16;
+    let n = (count as usize) * 16;
+    let mut k: usize = 0;
+    while k < n {
+        response[12 + k] = permissions[from + k];
+        k += 1;
+    }
+}

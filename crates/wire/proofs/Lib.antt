@@ -1,0 +1,4 @@
+pub mod BitLaws
+pub mod Loops
+pub mod Addresses
+pub mod Sets

@@ -1,0 +1,4 @@
+pub mod Bits
+pub mod Groups
+pub mod Address
+pub mod PhySet

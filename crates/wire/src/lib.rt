@@ -1,0 +1,60 @@
+// What stands on the wire and in every lent table: phy numbers, zone groups, addresses and sets of phys.
+ghost use mathlib.Core.Path.{_≡_};
+ghost use Prim.Native.Nat.{_+_, _<_, _≤_};
+ghost use lib.ListN.{length};
+ghost use Rattle.wire.specs.Groups.{groupOf, outsideGroup};
+ghost use Rattle.wire.specs.Address.{addressAt};
+ghost use Rattle.wire.specs.PhySet.{physIn};
+
+// Both are below 128, and neither is accepted in the other's place: so each is a type of its own.
+pub struct PhyNumber(pub u8);
+
+pub struct ZoneGroup(pub u8);
+
+// The group of OPEN byte 20 and of a phy record's byte 1.
+pub fn group_of(b: u8) -> ZoneGroup
+    ensures { λ r. ⌜ r .0 ≡ groupOf b ⌝ }
+{
+    ZoneGroup(b % 128)
+}
+
+// The group of a byte from outside: the carried SMP group, a broadcast frame's byte 3, a route record's byte 9.
+pub fn outside_group(b: u8) -> ZoneGroup
+    ensures { λ r. ⌜ r .0 ≡ outsideGroup b ⌝ }
+{
+    ZoneGroup(b % 128)
+}
+
+fn wide(b: u8) -> u64
+    ensures { λ r. ⌜ (r ≡ b) × (r < 256) ⌝ }
+{
+    b as u64
+}
+
+// The address in the eight bytes from `at` on.
+pub fn address_at(bytes: &[u8], at: usize) -> u64
+    requires { ⌜ at + 8 ≤ length (now bytes) ⌝ }
+    ensures { λ r. ⌜ r ≡ addressAt (now (bytes .entry)) at ⌝ }
+{
+    let mut address: u64 = 0;
+    let mut k: usize = 0;
+    while k < 8 {
+        address = address * 256 + wide(bytes[at + k]);
+        k += 1;
+    }
+    address
+}
+
+// How many phys the set's first sixteen bytes hold.
+pub fn phys_in(set: &[u8]) -> u8
+    requires { ⌜ 16 ≤ length (now set) ⌝ }
+    ensures { λ r. ⌜ r ≡ physIn (now (set .entry)) ⌝ }
+{
+    let mut count: u32 = 0;
+    let mut k: usize = 0;
+    while k < 16 {
+        count += u8::count_ones(set[k]);
+        k += 1;
+    }
+    count as u8
+}

@@ -37,7 +37,7 @@ names-away r j c d nc nd = rw (ne-eqb c r nc, ne-eqb d r nd) (go (eqb c j))
     go true = refl
     go false = refl
 
-row-past : (f : ℕ → Bool) (r j n d : ℕ) (x : Bool) → d < j → latest (rowOrders f r j n) r d x ≡ x
+pub row-past : (f : ℕ → Bool) (r j n d : ℕ) (x : Bool) → d < j → latest (rowOrders f r j n) r d x ≡ x
 unfolding latest rowOrders
 row-past f r j zero d x h = refl
 row-past f r j (suc n) d x h =

@@ -1,18 +1,19 @@
 -- The masks, and `&`, `|` and `!` with one, in the words of `bit` and `setBit`.
 -- Assumes nothing.
 use mathlib.Core.Path.{_≡_, refl, sym, ap, ap₂, _∙_}
-use mathlib.Core.Bool.{true, false, not}
+use mathlib.Core.Bool.{Bool, true, false, not}
 use mathlib.Core.List.{List, [], _∷_}
 use Prim.Native.Nat.{ℕ, zero, suc, _+_, _-_, _*_, _/_, _%_, _^_, _<_, max}
-use native.Mathlib.Nat.{mod-lt, mod-mod, mod-eq-of-lt, add-zero}
+use native.Mathlib.Nat.{mod-lt, mod-mod, mod-eq-of-lt, add-zero, pow-suc}
 use native.Mathlib.Omega.{arith}
 use borrow.Author.Tests.{ne-eqb}
 use lib.Dec.{eqb}
 use lib.ListN.{getD}
-use lib.Pow.{pow-pos, split, ones-lt}
+use lib.Pow.{pow-pos, split, ones-lt, shr-shr}
 use lib.Bits.{bitAnd, bitOr, and-mask, and-block, and-high, or-block, or-step, or-zero-r, and-zero-r}
-use Rattle.wire.specs.Bits.{bit, setBit}
+use Rattle.wire.specs.Bits.{num, bit, setBit}
 use Rattle.wire.proofs.BitLaws.{each8}
+use Rattle.permit.specs.Rows.{Masked}
 
 abbrev pub masks : List ℕ
 masks = 1 ∷ 2 ∷ 4 ∷ 8 ∷ 16 ∷ 32 ∷ 64 ∷ 128 ∷ []
@@ -87,3 +88,35 @@ and-not x k hx hk =
     ∙ ap₂ (λ (a b : ℕ). a * 2 ^ k + b)
     (and-high (x / 2 ^ k) (7 - k) 1 ∙ ap (λ (n : ℕ). n * 2) (mod-eq-of-lt (top-lt x k hk hx)) ∙ sym (add-zero (x / 2 ^ k / 2 * 2)))
     (and-mask (x % 2 ^ k) k ∙ mod-mod x (2 ^ k))
+
+-- both, as the code has them
+pub with-on : (x m : ℕ) (v : Bool) → v ≡ true → Masked x m v (bitOr x m)
+with-on x m v e k h p = rw (e, p) (or-bit x k)
+
+pub with-off : (x m : ℕ) (v : Bool) → x < 256 → v ≡ false → Masked x m v (bitAnd x (255 - m))
+with-off x m v hx e k h p = rw (e, p) (and-not x k hx h)
+
+-- ---- two numbers are equal by their bits
+pub bits-ext : (n x y : ℕ) → x < 2 ^ n → y < 2 ^ n → ((k : ℕ) → k < n → bit x k ≡ bit y k) → x ≡ y
+unfolding bit
+bits-ext zero x y hx hy h = omega arith
+bits-ext (suc n) x y hx hy h =
+    let lx : x < 2 ^ n * 2 = rw pow-suc at hx in
+    let ly : y < 2 ^ n * 2 = rw pow-suc at hy in
+    let low : x / 2 ^ 0 % 2 ≡ y / 2 ^ 0 % 2 = h 0 (omega arith) in
+    let top : x / 2 ≡ y / 2 = bits-ext n (x / 2) (y / 2) (omega arith) (omega arith) (λ k l. down x k ∙ h (suc k) (omega arith) ∙ sym (down y k)) in
+    omega arith
+  where
+    one-add : (k : ℕ) → 1 + k ≡ suc k
+    one-add k = omega arith
+
+    down : (z k : ℕ) → z / 2 / 2 ^ k % 2 ≡ z / 2 ^ suc k % 2
+    down z k = ap (λ (m : ℕ). m % 2) (shr-shr z 1 k ∙ ap (λ (m : ℕ). z / 2 ^ m) (one-add k))
+
+pub bit-ext : (x y k : ℕ) → eqb (bit x k) 1 ≡ eqb (bit y k) 1 → bit x k ≡ bit y k
+bit-ext x y k e = by-num (bit x k) (bit-lt x k) ∙ ap num e ∙ sym (by-num (bit y k) (bit-lt y k))
+  where
+    by-num : (b : ℕ) → b < 2 → b ≡ num (eqb b 1)
+    by-num zero h = refl
+    by-num (suc zero) h = refl
+    by-num (suc (suc b)) h = absurd (omega arith)

@@ -115,37 +115,7 @@ history w os ok =
           ∙ ap (latest os c d) (P-start w c d (zc .1) (zd .1) ∙ rw (ne-eqb c 1 (λ e. omega arith), ne-eqb d 1 (λ e. omega arith)));
     }
 
--- ---- a loop over a row's groups: what is left to do, done to the table as it is, gives what the whole row gives
-row-step : (w : ℕ) (f : ℕ → Bool) (r j n : ℕ) (t : List ℕ) → j < n
-    → apply w (rowOrders f r j (n - j)) t ≡ apply w (rowOrders f r (j + 1) (n - (j + 1))) (setBoth w t r j (f j))
-unfolding apply rowOrders
-row-step w f r j n t h = rw (left n j h, add-one j)
-
-row-end : (w : ℕ) (f : ℕ → Bool) (r j n : ℕ) (t : List ℕ) → n ≤ j → apply w (rowOrders f r j (n - j)) t ≡ t
-unfolding apply rowOrders
-row-end w f r j n t h = let e : n - j ≡ 0 = omega arith in rw e
-
-pub record RowLeft (w : ℕ) (f : ℕ → Bool) (r : ℕ) (t₀ t : List ℕ) (j : ℕ) : Type 0 where
-  pub upTo : j ≤ groups w
-  pub sized : length t ≡ tableSize w
-  pub rest : apply w (rowOrders f r j (groups w - j)) t ≡ apply w (rowOrders f r 2 (groups w - 2)) t₀
-
-module _ (w : ℕ) (f : ℕ → Bool) (r : ℕ) where
-  pub row-start : (t : List ℕ) → length t ≡ tableSize w → r < groups w → RowLeft w f r t t 2
-  row-start t l h = record { upTo = omega arith; sized = l; rest = refl }
-
-  pub row-again : (t₀ t t′ : List ℕ) (j : ℕ) (v : Bool) → j < groups w → v ≡ f j → t′ ≡ setBoth w t r j v → RowLeft w f r t₀ t j
-      → RowLeft w f r t₀ t′ (j + 1)
-  row-again t₀ t t′ j v h e b l = record {
-    upTo = omega arith;
-    sized = ap length b ∙ length-setBoth w t r j v ∙ l .sized;
-    rest = rw (b, e) (sym (row-step w f r j (groups w) t h) ∙ l .rest);
-  }
-
-  pub row-done : (t₀ t : List ℕ) (j : ℕ) → groups w ≤ j → RowLeft w f r t₀ t j → t ≡ apply w (rowOrders f r 2 (groups w - 2)) t₀
-  row-done t₀ t j h l = sym (row-end w f r j (groups w) t h) ∙ l .rest
-
--- ---- a loop over a batch's rows
+-- ---- a loop over a batch's rows: what is left to do, done to the table as it is, gives what the whole batch gives
 batch-step : (w : ℕ) (rows : List ℕ) (start i k : ℕ) (t : List ℕ) → i < k
     → apply w (batchOrders w rows start i (k - i)) t
     ≡ apply w (batchOrders w rows start (i + 1) (k - (i + 1))) (apply w (rowOrders (P 16 rows i) (start + i) 2 (groups w - 2)) t)

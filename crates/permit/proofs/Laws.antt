@@ -1,23 +1,25 @@
 -- The laws of the permission table, for any row width: what a write of one bit changes, that it changes nothing else, and what stands there at start-up.
 -- Assumes nothing.
-use mathlib.Core.Path.{_≡_, refl, sym, ap, ap₂, _∙_, subst}
+use mathlib.Core.Path.{_≡_, refl, sym, ap, ap₂, _∙_, subst, subst₂}
 use mathlib.Core.Bool.{Bool, true, false, cond, _&&_, _||_, and-comm, or-comm}
 use mathlib.Core.List.{List, append-nil}
 use mathlib.Core.Logic.{_⊎_, inl, inr, ⊎-elim}
-use Prim.Native.Nat.{ℕ, _+_, _-_, _/_, _%_, _^_, _≤_, _<_}
-use native.Mathlib.Nat.{zero-add, zero-div}
+use Prim.Native.Nat.{ℕ, zero, suc, _+_, _-_, _*_, _/_, _%_, _^_, _≤_, _<_}
+use native.Mathlib.Nat.{zero-add, zero-div, mod-lt, div-add-mod', div-lt-iff-lt-mul}
 use native.Mathlib.Decide.{decLt, ℕ-discrete}
 use native.Mathlib.Omega.{arith}
 use borrow.Author.Tests.{eq-eqb, ne-eqb}
 use lib.Dec.{eqb}
 use lib.ListN.{length, getD, set, length-set, drop-of-length-le}
 use lib.Arith.{digits-lt, digits-div, digits-mod}
-use lib.Seq.{getD-set-same, getD-set-other, set-out}
+use lib.Seq.{getD-set-same, getD-set-other, set-out, ext-getD}
 use Rattle.wire.specs.Bits.{bit, setBit, tab}
 use Rattle.wire.proofs.BitLaws.{each8, eqb-num, bit-same, bit-other, bit-fits}
 use Rattle.wire.proofs.Loops.{length-tab, getD-tab, Filled, fill-again, fill-end}
 use Rattle.permit.specs.Permission.{groups, tableSize, place, P, setP, setBoth, startByte, startTable}
 use Rattle.permit.specs.History.{names}
+use Rattle.permit.specs.Rows.{Masked}
+use Rattle.permit.proofs.BitOps.{bits-ext, bit-ext}
 
 -- ---- places
 -- a row's byte is within the row
@@ -52,6 +54,12 @@ place-bit w a b c d hb hd e f =
 pub length-setP : (w : ℕ) (t : List ℕ) (a b : ℕ) (v : Bool) → length (setP w t a b v) ≡ length t
 unfolding setP
 length-setP w t a b v = length-set t (place w a b) _
+
+-- as the code writes it, by a mask
+pub set-masked : (w : ℕ) (t : List ℕ) (a b m x : ℕ) (v : Bool) → m ≡ 2 ^ (b % 8) → Masked (getD t (a * w + (w - 1 - b / 8)) 0) m v x
+    → set t (a * w + (w - 1 - b / 8)) x ≡ setP w t a b v
+unfolding setP place
+set-masked w t a b m x v e h = rw (h (b % 8) (omega arith) e)
 
 pub P-same : (w : ℕ) (t : List ℕ) (a b : ℕ) (v : Bool) → length t ≡ tableSize w → a < groups w → P w (setP w t a b v) a b ≡ v
 unfolding P setP
@@ -155,6 +163,33 @@ mutual-both w t a b v hl ha hb h c d hc hd =
     P-both w t a b c d v hl ha hb hd
     ∙ ap₂ (λ (x y : Bool). cond x v y) (names-swap a b c d) (h c d hc hd)
     ∙ sym (P-both w t a b d c v hl ha hb hc)
+
+-- ---- two tables are equal by what they say
+-- the place of bit k of a row's byte i
+seat : (w i k : ℕ) → i < w → k < 8 → (8 * (w - 1 - i) + k < groups w) × ((8 * (w - 1 - i) + k) % 8 ≡ k) × (w - 1 - (8 * (w - 1 - i) + k) / 8 ≡ i)
+seat w i k hi hk = (omega arith, omega arith, omega arith)
+
+module _ (w : ℕ) (t u : List ℕ) (bt : Bytes t) (bu : Bytes u) (same : (c d : ℕ) → c < groups w → d < groups w → P w t c d ≡ P w u c d) where
+  same-bit : (i k : ℕ) → 0 < w → i < tableSize w → k < 8 → bit (getD t i 0) k ≡ bit (getD u i 0) k
+  unfolding P place
+  same-bit i k hw hi hk =
+      let s = seat w (i % w) k (mod-lt i hw) hk in
+      let d : ℕ = 8 * (w - 1 - i % w) + k in
+      let at : place w (i / w) d ≡ i = ap (λ (m : ℕ). i / w * w + m) (s .2) ∙ div-add-mod' i w in
+      bit-ext (getD t i 0) (getD u i 0) k
+      (subst₂ (λ (p q : ℕ). eqb (bit (getD t p 0) q) 1 ≡ eqb (bit (getD u p 0) q) 1) at (s .1) (same (i / w) d (div-lt-iff-lt-mul hw .1 hi) (s .0)))
+
+  pub table-ext : length t ≡ tableSize w → length u ≡ tableSize w → t ≡ u
+  table-ext lt lu =
+      ext-getD 0 t u (lt ∙ sym lu)
+      (λ i h. bits-ext 8 (getD t i 0) (getD u i 0) (bt i) (bu i) (λ k hk. same-bit i k (wide i (omega arith)) (omega arith) hk))
+    where
+      wide : (i : ℕ) → i < tableSize w → 0 < w
+      wide i h = go w h
+        where
+          go : (v : ℕ) → i < tableSize v → 0 < v
+          go zero h = absurd (omega arith)
+          go (suc v) h = omega arith
 
 -- ---- the table at start-up: row 1 and group 1, and nothing else
 pub length-start : (w : ℕ) → length (startTable w) ≡ tableSize w

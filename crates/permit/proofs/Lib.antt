@@ -3,3 +3,4 @@ pub mod Laws
 pub mod HistoryLaws
 pub mod BatchLaws
 pub mod Copies
+pub mod RowLaws

@@ -1,3 +1,4 @@
 pub mod Permission
 pub mod Orders
 pub mod History
+pub mod Rows

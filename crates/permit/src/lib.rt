@@ -1,12 +1,12 @@
 // The permission table: 2,048 bytes, row a at byte 16a. In a row, group j is bit j mod 8 of byte 15 - j/8.
 use wire::ZoneGroup;
 ghost use mathlib.Core.Path.{_≡_};
-ghost use Prim.Native.Nat.{_+_, _*_, _%_, _^_, _≤_, _<_};
+ghost use Prim.Native.Nat.{_+_, _*_, _/_, _%_, _^_, _≤_, _<_};
 ghost use lib.ListN.{length, drop};
 ghost use lib.Seq.{paste};
-ghost use Rattle.wire.specs.Bits.{setBit};
 ghost use Rattle.permit.specs.Permission.{P, setP, setBoth, startByte, startTable, Whole};
 ghost use Rattle.permit.specs.Orders.{apply, rowOrders, batchOrders};
+ghost use Rattle.permit.specs.Rows.{Masked, RowIs, ColumnIs};
 
 // The bit of a group within its byte.
 const MASKS: [u8; 8] = [1, 2, 4, 8, 16, 32, 64, 128];
@@ -33,10 +33,9 @@ pub fn permitted(permissions: &[u8], a: ZoneGroup, b: ZoneGroup) -> bool
     row_has(permissions, a.0 as usize, b.0 as usize)
 }
 
-fn with_group(x: u8, group: usize, on: bool) -> u8
-    ensures { λ r. ⌜ r ≡ setBit x (group % 8) on ⌝ }
+fn with_mask(x: u8, m: u8, on: bool) -> u8
+    ensures { λ r. ⌜ Masked x m on r ⌝ }
 {
-    let m = mask(group);
     if on { x | m } else { x & !m }
 }
 
@@ -47,7 +46,8 @@ fn write_one(permissions: &mut [u8], a: ZoneGroup, b: ZoneGroup, on: bool)
     let row = a.0 as usize;
     let group = b.0 as usize;
     let at = row * 16 + (15 - group / 8);
-    permissions[at] = with_group(permissions[at], group, on);
+    let m = mask(group);
+    permissions[at] = with_mask(permissions[at], m, on);
 }
 
 // One single order: both places of the pair.
@@ -83,17 +83,60 @@ pub fn start_table(permissions: &mut [u8])
     }
 }
 
+// Copies n bytes of `source` from byte `from` on into `target` at byte `at`.
+fn copy(target: &mut [u8], at: usize, source: &[u8], from: usize, n: usize)
+    requires { ⌜ (at + n ≤ length (now target)) × (from + n ≤ length (now source)) ⌝ }
+    ensures { λ _. ⌜ now (target .exit) ≡ paste (now (target .entry)) at (drop from (now (source .entry))) n ⌝ }
+{
+    let mut k: usize = 0;
+    while k < n {
+        target[at + k] = source[from + k];
+        k += 1;
+    }
+}
+
+// A row's last byte holds groups 0 and 1 in its two low bits.
+fn keep_low(new: u8, old: u8) -> u8
+    ensures { λ r. ⌜ r ≡ new / 4 * 4 + old % 4 ⌝ }
+{
+    new / 4 * 4 + old % 4
+}
+
+// Row r becomes row i of a batch's rows, but for groups 0 and 1.
+fn put_row(permissions: &mut [u8], rows: &[u8], i: usize, r: ZoneGroup)
+    requires { ⌜ (length (now permissions) ≡ 2048) × (16 * i + 16 ≤ length (now rows)) × (r .0 < 128) ⌝ }
+    ensures { λ _. ⌜ RowIs 16 (P 16 (now (rows .entry)) i) (r .0) (now (permissions .entry)) (now (permissions .exit)) ⌝ }
+{
+    let to = (r.0 as usize) * 16;
+    let from = i * 16;
+    copy(permissions, to, rows, from, 15);
+    permissions[to + 15] = keep_low(rows[from + 15], permissions[to + 15]);
+}
+
+// Group r of every row from 2 on becomes that row's group in row i of a batch's rows.
+fn put_column(permissions: &mut [u8], rows: &[u8], i: usize, r: ZoneGroup)
+    requires { ⌜ (length (now permissions) ≡ 2048) × (16 * i + 16 ≤ length (now rows)) × (r .0 < 128) ⌝ }
+    ensures { λ _. ⌜ ColumnIs 16 (P 16 (now (rows .entry)) i) (r .0) (now (permissions .entry)) (now (permissions .exit)) ⌝ }
+{
+    let group = r.0 as usize;
+    let byte = 15 - group / 8;
+    let m = mask(group);
+    let mut j: usize = 2;
+    while j < 128 {
+        let on = row_has(rows, i, j);
+        let at = j * 16 + byte;
+        permissions[at] = with_mask(permissions[at], m, on);
+        j += 1;
+    }
+}
+
 // Row i of a batch's rows, for the group r: each group from 2 on, both ways.
 fn batch_row(permissions: &mut [u8], rows: &[u8], i: usize, r: ZoneGroup)
     requires { ⌜ (length (now permissions) ≡ 2048) × (16 * i + 16 ≤ length (now rows)) × (r .0 < 128) ⌝ }
     ensures { λ _. ⌜ now (permissions .exit) ≡ apply 16 (rowOrders (P 16 (now (rows .entry)) i) (r .0) 2 126) (now (permissions .entry)) ⌝ }
 {
-    let mut j: u8 = 2;
-    while j < 128 {
-        let on = row_has(rows, i, j as usize);
-        write_both(permissions, r, ZoneGroup(j), on);
-        j += 1;
-    }
+    put_row(permissions, rows, i, r);
+    put_column(permissions, rows, i, r);
 }
 
 // The count rows of a request from byte 12 on, in order, so that a later row overrides.
@@ -115,11 +158,11 @@ pub fn report_rows(permissions: &[u8], start: ZoneGroup, count: u8, response: &m
     requires { ⌜ (length (now permissions) ≡ 2048) × (start .0 + count ≤ 128) × (12 + 16 * count ≤ length (now response)) ⌝ }
     ensures { λ _. ⌜ now (response .exit) ≡ paste (now (response .entry)) 12 (drop (16 * (start .0)) (now (permissions .entry))) (16 * count) ⌝ }
 {
-    let from = (start.0 as usize) * 16;
-    let n = (count as usize) * 16;
-    let mut k: usize = 0;
-    while k < n {
-        response[12 + k] = permissions[from + k];
-        k += 1;
-    }
+    copy(
+        response,
+        12,
+        permissions,
+        16 * (start.0 as usize),
+        16 * (count as usize),
+    );
 }

@@ -1,7 +1,7 @@
 -- `permit::write_one` meets its contract.
 -- Assumes nothing.
 use borrow.Author.Needs.{needs}
-use Rattle.permit.specs.Permission.{setP, place}
+use Rattle.permit.proofs.Laws.{set-masked}
 use Rattle.permit.proofs.write_one.Statement.{statement}
 use Rattle.permit.proofs.write_one.Tie as tie
 
@@ -20,11 +20,14 @@ sub-at c = search needs
 add-at : tie.Need-add-at
 add-at c = search needs
 
-slice-read-with-group : tie.Need-slice-read-with-group
-slice-read-with-group c = search needs
+mask-requires : tie.Need-mask-requires
+mask-requires c κs = search needs
 
-with-group-requires : tie.Need-with-group-requires
-with-group-requires c κs = search needs
+slice-read-with-mask : tie.Need-slice-read-with-mask
+slice-read-with-mask c = search needs
+
+with-mask-requires : tie.Need-with-mask-requires
+with-mask-requires c κs = search needs
 
 slice-write-permissions : tie.Need-slice-write-permissions
 slice-write-permissions c = search needs
@@ -33,8 +36,7 @@ same-length : tie.Need-same-length
 same-length c = search needs
 
 returns : tie.Need-returns
-unfolding setP place
-returns c = rw (c .with-group .ensures)
+returns c = search (set-masked 16)
 
 pub write-one-spec : {M : Type 1} → statement M
 write-one-spec =
@@ -45,8 +47,9 @@ write-one-spec =
     mul-at
     sub-at
     add-at
-    slice-read-with-group
-    with-group-requires
+    mask-requires
+    slice-read-with-mask
+    with-mask-requires
     slice-write-permissions
     same-length
     returns)

@@ -1,0 +1,170 @@
+-- Broadcasts: which phys are told, case by case and bit by bit of the set; the frame; the calls' own rows after those that both check.
+-- Assumes nothing.
+use mathlib.Core.Path.{_≡_, refl, sym, ap, ap₂, _∙_}
+use mathlib.Core.Bool.{Bool, true, false, not, _&&_}
+use mathlib.Core.List.{List, [], _∷_, _++_}
+use Prim.Native.Nat.{ℕ, zero, suc, _+_, _-_, _*_, _/_, _%_, _≤_, _<_}
+use native.Mathlib.Nat.{zero-add}
+use native.Mathlib.Decide.{ℕ-discrete}
+use native.Mathlib.Omega.{arith}
+use borrow.Author.Tests.{eq-eqb, ne-eqb}
+use lib.Dec.{eqb}
+use lib.ListN.{length, getD, drop, List·getD-eq-default}
+use Rattle.wire.specs.Groups.{outsideGroup}
+use Rattle.wire.specs.PhySet.{member, setOf, tally, physIn}
+use Rattle.wire.proofs.Sets.{member-setOf, member-head, length-setOf, tally-same, tally-le, tally-add}
+use Rattle.permit.specs.Permission.{P}
+use Rattle.tables.specs.Refusals.{Check, refuse, below, same, differ, off, firstRefusal}
+use Rattle.tables.specs.Phys.{phyCount, phyByte, phyGroup, participating, ready}
+use Rattle.tables.proofs.RefusalLaws.{front, back, clear}
+use Rattle.tables.specs.Outcome.{answer, out}
+use Rattle.tables.proofs.OutcomeLaws.{gives}
+use Rattle.tables.proofs.PhyLaws.{ready-out}
+use Rattle.broadcasts.specs.Inner.{Shelf, Announced}
+use Rattle.broadcasts.specs.Broadcasts.{told, toldSet, frameOf, announced, arrivalChecks, primitiveChecks, frameChecks, typeOf, typedLength}
+
+-- a callee's number x is v, and a was held against x
+pub held-same : {a x v : ℕ} → x ≡ v → a ≡ x → a ≡ v
+held-same e h = h ∙ e
+
+pub held-differ : {a x v : ℕ} → x ≡ v → (a ≡ x → ⊥) → a ≡ v → ⊥
+held-differ e h q = h (q ∙ sym e)
+
+-- ---- the calls' own rows, after those that both check
+module _ (phys permissions : List ℕ) (phy room space r : ℕ) (e : r ≡ firstRefusal (arrivalChecks phys permissions phy room space)) where
+  pub primitive-front : (number : ℕ) → (r ≡ 0 → ⊥) → r ≡ firstRefusal (primitiveChecks phys permissions phy number room space)
+  primitive-front number h = front (arrivalChecks phys permissions phy room space) _ r e h
+
+  pub primitive-back : (number n : ℕ) → r ≡ 0 → n ≡ firstRefusal (refuse 5 (below 7 number) ∷ [])
+      → n ≡ firstRefusal (primitiveChecks phys permissions phy number room space)
+  primitive-back number n z en = back (arrivalChecks phys permissions phy room space) _ r n tt e z en
+
+  -- the arriving phy is in the table
+  pub arrival-there : r ≡ 0 → phy < phyCount phys
+  arrival-there z = let k = clear (arrivalChecks phys permissions phy room space) r e z tt in omega arith
+
+  pub frame-front : (arrived : List ℕ) → (r ≡ 0 → ⊥) → r ≡ firstRefusal (frameChecks phys permissions phy arrived room space)
+  frame-front arrived h = front (arrivalChecks phys permissions phy room space) _ r e h
+
+  pub frame-back : (arrived : List ℕ) (n : ℕ) → r ≡ 0
+      → n ≡ firstRefusal (refuse 4 (same (length arrived) 0) ∷ refuse 4 (differ (length arrived) (typedLength arrived))
+      ∷ refuse 5 (below (typeOf arrived) 2) ∷ refuse 5 (below 3 (typeOf arrived)) ∷ refuse 6 (off (participating phys phy)) ∷ [])
+      → n ≡ firstRefusal (frameChecks phys permissions phy arrived room space)
+  frame-back arrived n z en = back (arrivalChecks phys permissions phy room space) _ r n tt e z en
+
+-- ---- whether phy i is told, by each way out of the function that answers it
+module _ (phys permissions : List ℕ) (phy source i : ℕ) where
+  pub told-unready : phyByte phys i 2 % 2 ≡ 0 → false ≡ told phys permissions phy source i
+  unfolding told
+  told-unready h = rw h
+
+  pub told-out : length phys % 12 ≡ 0 → phyCount phys ≤ i → false ≡ told phys permissions phy source i
+  unfolding told
+  told-out w h = rw (← ready-out phys i w h)
+
+  pub told-self : i ≡ phy → false ≡ told phys permissions phy source i
+  unfolding told
+  told-self e = rw (eq-eqb _ _ e) (go (ready phys i))
+    where
+      go : (b : Bool) → false ≡ (b && false)
+      go true = refl
+      go false = refl
+
+  pub told-other : (g : ℕ) (x : Bool) → (phyByte phys i 2 % 2 ≡ 0 → ⊥) → (i ≡ phy → ⊥) → g ≡ phyGroup phys i → x ≡ P 16 permissions source g
+      → x ≡ told phys permissions phy source i
+  unfolding told
+  told-other g x h n eg e =
+      let o : phyByte phys i 2 % 2 ≡ 1 = omega arith in
+      rw (eq-eqb _ _ o, ne-eqb _ _ n, ← eg) e
+
+  -- "It holds every ready phy, except the arriving one, with P(source group, its group) on": in the set exactly if so
+  pub in-set : i < 128 → member (toldSet phys permissions phy source) i ≡ (ready phys i && (not (eqb i phy) && P 16 permissions source (phyGroup phys i)))
+  unfolding toldSet told
+  in-set h = member-setOf (λ (k : ℕ). ready phys k && (not (eqb k phy) && P 16 permissions source (phyGroup phys k))) i h
+
+  -- a phy whose group the source may not reach is in no set
+  pub barred : i < 128 → P 16 permissions source (phyGroup phys i) ≡ false → member (toldSet phys permissions phy source) i ≡ false
+  barred h p = in-set h ∙ rw p (go (ready phys i) (not (eqb i phy)))
+    where
+      go : (b d : Bool) → (b && (d && false)) ≡ false
+      go true true = refl
+      go true false = refl
+      go false d = refl
+
+pub ruleset telling = (told-unready, told-out, told-self, told-other)
+
+pub length-told : (phys permissions : List ℕ) (phy source : ℕ) → length (toldSet phys permissions phy source) ≡ 16
+unfolding toldSet
+length-told phys permissions phy source = length-setOf _
+
+-- ---- the count
+-- the phys of a set that stands at the head of a buffer
+pub count-head : (phys permissions : List ℕ) (phy source : ℕ) (s rest : List ℕ) → s ≡ toldSet phys permissions phy source ++ rest
+    → physIn s ≡ physIn (toldSet phys permissions phy source)
+unfolding physIn toldSet
+count-head phys permissions phy source s rest e =
+    ap (λ (l : List ℕ). tally (member l) 0 128) e
+    ∙ tally-same _ _ 0 128 (λ k l u. member-head _ rest k (omega arith) ∙ sym (member-setOf _ k (omega arith)))
+
+-- no phy from n on, and not p, is counted
+none-counted : (f : ℕ → Bool) (i n : ℕ) → ((k : ℕ) → i ≤ k → k < i + n → f k ≡ false) → tally f i n ≡ 0
+unfolding tally
+none-counted f i zero h = refl
+none-counted f i (suc n) h =
+    rw (h i (omega arith) (omega arith)) (omega (arith, none-counted f (suc i) n (λ k l u. h k (omega arith) (omega arith))))
+
+-- of n numbers below m, with one of them left out, at most n - 1
+tally-most : (f : ℕ → Bool) (p n m : ℕ) → p < n → n ≤ m → f p ≡ false → ((k : ℕ) → n ≤ k → k < m → f k ≡ false) → tally f 0 m ≤ n - 1
+tally-most f p n m h l self gone =
+    let one : tally f p 1 ≡ 0 = none-counted f p 1 (λ k a b. ap f (omega arith) ∙ self) in
+    let past : tally f n (m - n) ≡ 0 = none-counted f n (m - n) (λ k a b. gone k a (omega arith)) in
+    let a : m ≡ p + (1 + ((n - p - 1) + (m - n))) = omega arith in
+    let b : p + 1 + (n - p - 1) ≡ n = omega arith in
+    let t : tally f 0 m ≡ tally f 0 p + (tally f p 1 + (tally f (p + 1) (n - p - 1) + tally f n (m - n))) =
+    ap (tally f 0) a
+    ∙ tally-add f 0 p (1 + ((n - p - 1) + (m - n)))
+    ∙ ap (λ (x : ℕ). tally f 0 p + x)
+    (ap (λ (k : ℕ). tally f k (1 + ((n - p - 1) + (m - n)))) (zero-add p)
+    ∙ tally-add f p 1 ((n - p - 1) + (m - n))
+    ∙ ap (λ (x : ℕ). tally f p 1 + x) (tally-add f (p + 1) (n - p - 1) (m - n) ∙ ap (λ (k : ℕ). tally f (p + 1) (n - p - 1) + tally f k (m - n)) b)) in
+    omega (arith, t, one, past, tally-le f 0 p, tally-le f (p + 1) (n - p - 1))
+
+-- "so at most the number of phys less one"
+pub count-most : (phys permissions : List ℕ) (phy source : ℕ) → length phys % 12 ≡ 0 → phyCount phys ≤ 128 → phy < phyCount phys
+    → physIn (toldSet phys permissions phy source) ≤ phyCount phys - 1
+unfolding physIn toldSet
+count-most phys permissions phy source w m h =
+    tally-most _ phy (phyCount phys) 128 h m
+    (member-setOf _ phy (omega arith) ∙ sym (told-self phys permissions phy source phy refl))
+    (λ k l u. member-setOf _ k u ∙ sym (told-out phys permissions phy source k w l))
+
+-- ---- the calls' ends
+module _ (phys permissions : List ℕ) (phy source number : ℕ) (set frame : List ℕ) where
+  pub announce-done : (count : ℕ) (set₁ frame₁ : List ℕ) → count ≡ physIn set₁ → set₁ ≡ toldSet phys permissions phy source ++ drop 16 set
+      → frame₁ ≡ frameOf number source ++ drop 28 frame → Announced phys permissions phy source number set frame count set₁ frame₁
+  announce-done count set₁ frame₁ e es ef = record {
+    counted = e ∙ count-head phys permissions phy source set₁ (drop 16 set) es;
+    told = es;
+    framed = ef;
+  }
+
+  pub announce-gives : (r n count : ℕ) (set₁ frame₁ : List ℕ) → r ≡ n → r ≡ 0 → Announced phys permissions phy source number set frame count set₁ frame₁
+      → out (answer (count ∷ [])) (set₁ ∷ frame₁ ∷ []) ≡ announced n phys permissions phy source number set frame
+  announce-gives r n count set₁ frame₁ e z a =
+      gives _ _ r n _ _ _ e z (ap (λ (x : ℕ). answer (x ∷ [])) (a .counted)) (ap₂ (λ (x y : List ℕ). x ∷ y ∷ []) (a .told) (a .framed))
+
+  -- the source as a callee answered it
+  pub announce-from : (s count : ℕ) (set₁ frame₁ : List ℕ) → s ≡ source → Announced phys permissions phy s number set frame count set₁ frame₁
+      → Announced phys permissions phy source number set frame count set₁ frame₁
+  announce-from s count set₁ frame₁ e a = rw (sym e) a
+
+-- a frame that is not refused has a type, and so four bytes at least
+pub frame-long : (arrived : List ℕ) → length arrived ≡ typedLength arrived → 2 ≤ typeOf arrived → typeOf arrived ≤ 3 → 4 ≤ length arrived
+unfolding typedLength
+frame-long arrived e l h = go (ℕ-discrete (typeOf arrived) 2)
+  where
+    go : Dec (typeOf arrived ≡ 2) → 4 ≤ length arrived
+    go (yes p) = let q : length arrived ≡ 28 = e ∙ rw (eq-eqb (typeOf arrived) 2 p) in omega arith
+    go (no n) =
+        let p : typeOf arrived ≡ 3 = omega arith in
+        let q : length arrived ≡ 4 = e ∙ rw (ne-eqb (typeOf arrived) 2 n, eq-eqb (typeOf arrived) 3 p) in omega arith

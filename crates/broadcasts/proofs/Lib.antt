@@ -1,0 +1,2 @@
+pub mod BroadcastLaws
+pub mod Unique

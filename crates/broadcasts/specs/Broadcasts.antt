@@ -1,0 +1,98 @@
+-- "Broadcasts": a primitive, or a broadcast frame, arrives on a phy.
+use mathlib.Core.Bool.{Bool, cond, not, _&&_}
+use mathlib.Core.List.{List, [], _∷_, _++_}
+use Prim.Native.Nat.{ℕ, _+_, _*_, _/_, _%_}
+use lib.Dec.{eqb}
+use lib.ListN.{length, getD, drop}
+use Rattle.wire.specs.Bits.{tab}
+use Rattle.wire.specs.Groups.{outsideGroup}
+use Rattle.wire.specs.PhySet.{setOf, physIn}
+use Rattle.permit.specs.Permission.{P}
+use Rattle.tables.specs.Refusals.{Check, refuse, below, atMost, same, differ, off, firstRefusal}
+use Rattle.tables.specs.Outcome.{Answer, refusal, answer, Out, outcome}
+use Rattle.tables.specs.Phys.{phyCount, physSize, phyGroup, participating, ready}
+use Rattle.broadcasts.specs.declared.Told.{Told}
+use Rattle.broadcasts.specs.declared.Told.the-variants.{Refused, Count}
+
+-- the answer in document 01's numbers
+abbrev pub toldAs : Told → Answer
+toldAs (Refused n) = refusal n
+toldAs (Count n) = answer (n ∷ [])
+
+-- "It holds every ready phy, except the arriving one, with P(source group, its group) on."
+unfoldable pub told : List ℕ → List ℕ → ℕ → ℕ → ℕ → Bool
+told phys permissions phy source i =
+    ready phys i && (not (eqb i phy) && P 16 permissions source (phyGroup phys i))
+
+unfoldable pub toldSet : List ℕ → List ℕ → ℕ → ℕ → List ℕ
+toldSet phys permissions phy source = setOf (told phys permissions phy source)
+
+-- "a type 2h frame, written whole at every answer 0: byte 0 the number times 16 plus 2, byte 3 the source group, the other 26 bytes zero"
+-- Its byte k:
+unfoldable pub frameByte : ℕ → ℕ → ℕ → ℕ
+frameByte number source k = cond (eqb k 0) (number * 16 + 2) (cond (eqb k 3) source 0)
+
+unfoldable pub frameOf : ℕ → ℕ → List ℕ
+frameOf number source = tab (frameByte number source) 0 28
+
+-- what both calls give, where n is the first refusal; the buffers: the phy set and the frame buffer
+abbrev pub announced : ℕ → List ℕ → List ℕ → ℕ → ℕ → ℕ → List ℕ → List ℕ → Out
+announced n phys permissions phy source number set frame =
+    outcome n
+    (physIn (toldSet phys permissions phy source) ∷ [])
+    (set ∷ frame ∷ [])
+    ((toldSet phys permissions phy source ++ drop 16 set) ∷ (frameOf number source ++ drop 28 frame) ∷ [])
+
+-- refusals 1, 2, 3, 7, which both calls check first; `room` is the size of the phy set, `space` of the frame buffer
+abbrev pub arrivalChecks : List ℕ → List ℕ → ℕ → ℕ → ℕ → List Check
+arrivalChecks phys permissions phy room space =
+    physSize phys
+    ++ refuse 1 (differ (length permissions) 2048)
+    ∷ refuse 2 (atMost (phyCount phys) phy)
+    ∷ refuse 3 (below room 16)
+    ∷ refuse 3 (below space 28)
+    ∷ refuse 7 (off (ready phys phy))
+    ∷ []
+
+-- "primitive number over 7"
+abbrev pub primitiveChecks : List ℕ → List ℕ → ℕ → ℕ → ℕ → ℕ → List Check
+primitiveChecks phys permissions phy number room space =
+    arrivalChecks phys permissions phy room space ++ refuse 5 (below 7 number) ∷ []
+
+-- "The source group of a primitive .. is the phy record's group."
+abbrev pub primitiveOut : List ℕ → List ℕ → ℕ → ℕ → List ℕ → List ℕ → Out
+primitiveOut phys permissions phy number set frame =
+    announced (firstRefusal (primitiveChecks phys permissions phy number (length set) (length frame)))
+    phys permissions phy (phyGroup phys phy) number set frame
+
+-- "Types are the low 4 bits of byte 0."
+abbrev pub typeOf : List ℕ → ℕ
+typeOf arrived = getD arrived 0 0 % 16
+
+-- "broadcast frame not 28 for type 2h, 4 for type 3h (an empty one is 4; another type is 5)": the length that its type asks for
+unfoldable pub typedLength : List ℕ → ℕ
+typedLength arrived = cond (eqb (typeOf arrived) 2) 28 (cond (eqb (typeOf arrived) 3) 4 (length arrived))
+
+-- "broadcast type not 2h or 3h"; "broadcast frame on a phy that is not participating"
+abbrev pub frameChecks : List ℕ → List ℕ → ℕ → List ℕ → ℕ → ℕ → List Check
+frameChecks phys permissions phy arrived room space =
+    arrivalChecks phys permissions phy room space
+    ++ refuse 4 (same (length arrived) 0)
+    ∷ refuse 4 (differ (length arrived) (typedLength arrived))
+    ∷ refuse 5 (below (typeOf arrived) 2)
+    ∷ refuse 5 (below 3 (typeOf arrived))
+    ∷ refuse 6 (off (participating phys phy))
+    ∷ []
+
+-- "A frame carries it in byte 0 bits 6..4."
+abbrev pub frameNumber : List ℕ → ℕ
+frameNumber arrived = getD arrived 0 0 / 16 % 8
+
+-- "on a participating phy, it is the group carried: .. in a broadcast frame those of byte 3"
+abbrev pub frameSource : List ℕ → ℕ
+frameSource arrived = outsideGroup (getD arrived 3 0)
+
+abbrev pub broadcastOut : List ℕ → List ℕ → ℕ → List ℕ → List ℕ → List ℕ → Out
+broadcastOut phys permissions phy arrived set frame =
+    announced (firstRefusal (frameChecks phys permissions phy arrived (length set) (length frame)))
+    phys permissions phy (frameSource arrived) (frameNumber arrived) set frame

@@ -1,0 +1,2 @@
+pub mod Broadcasts
+pub mod Inner

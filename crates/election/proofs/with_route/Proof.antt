@@ -1,0 +1,26 @@
+-- `election::with_route` meets its contract.
+-- Assumes nothing.
+use Rattle.election.proofs.Steps.{route-zero, route-considered}
+use borrow.Author.Needs.{needs}
+use Rattle.election.proofs.with_route.Statement.{statement}
+use Rattle.election.proofs.with_route.Tie as tie
+
+route-priority-requires : tie.Need-route-priority-requires
+route-priority-requires c κs = search needs
+
+returns : tie.Need-returns
+returns c = search route-zero
+
+route-address-requires : tie.Need-route-address-requires
+route-address-requires c κs = search needs
+
+consider-requires : tie.Need-consider-requires
+consider-requires c κs = search needs
+
+returns-2 : tie.Need-returns-2
+returns-2 c = search route-considered
+
+pub with-route-spec : {M : Type 1} → statement M
+with-route-spec =
+    tie.close
+    (tie.spec route-priority-requires returns route-address-requires consider-requires returns-2)

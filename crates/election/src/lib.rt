@@ -1,0 +1,151 @@
+// The supervisor's election.
+use tables::PHY_RECORD;
+use tables::ROUTE_RECORD;
+use wire::PhyNumber;
+ghost use mathlib.Core.Path.{_≡_};
+ghost use mathlib.Core.List.{[], _++_};
+ghost use Prim.Native.Nat.{_<_};
+ghost use Rattle.tables.specs.Refusals.{firstRefusal, Clear};
+ghost use Rattle.tables.specs.Outcome.{out};
+ghost use Rattle.tables.specs.Phys.{phyCount, physSize};
+ghost use Rattle.tables.specs.Routes.{routeCount, routesSize};
+ghost use Rattle.election.specs.Election.{electedAs, fit, candidate, phyCandidate, phyCandidates, routeCandidate, routeCandidates, better, best, elected, electOut};
+
+// The best candidate so far.
+pub struct Candidate {
+    pub priority: u8,
+    pub address: u64,
+}
+
+pub enum Elected {
+    Refused(u8),
+    Supervisor(Candidate),
+}
+
+// The refusals of an election: the sizes of both tables.
+fn elect_refusal(phys: &[u8], routes: &[u8]) -> u8
+    ensures { λ r. ⌜ r ≡ firstRefusal (physSize (now (phys .entry)) ++ routesSize (now (routes .entry))) ⌝ }
+{
+    if phys.len() % PHY_RECORD != 0 {
+        return 1;
+    }
+    if phys.len() < PHY_RECORD {
+        return 1;
+    }
+    if 128 * PHY_RECORD < phys.len() {
+        return 1;
+    }
+    if routes.len() % ROUTE_RECORD != 0 {
+        return 1;
+    }
+    if 1024 * ROUTE_RECORD < routes.len() {
+        return 1;
+    }
+    0
+}
+
+// The winner of b and the candidate of this priority and address.
+fn better(b: Candidate, priority: u8, address: u64) -> Candidate
+    ensures { λ r. ⌜ r ≡ better (record { priority = priority; address = address }) b ⌝ }
+{
+    if b.priority < priority {
+        return Candidate { priority, address };
+    }
+    if b.priority == priority {
+        if b.address < address {
+            return Candidate { priority, address };
+        }
+    }
+    b
+}
+
+// The one step of both loops: the best of b and a record whose priority is above 0.
+fn consider(b: Candidate, priority: u8, address: u64) -> Candidate
+    requires { ⌜ 0 < priority ⌝ }
+    ensures { λ r. ⌜ r ≡ best b (candidate (fit priority address) priority address) ⌝ }
+{
+    if address == 0 {
+        return b;
+    }
+    better(b, priority, address)
+}
+
+// The best of b and a phy. Most phys have priority 0: their address is not read.
+fn with_phy(b: Candidate, phys: &[u8], phy: PhyNumber) -> Candidate
+    requires { ⌜ phy .0 < phyCount (now phys) ⌝ }
+    ensures { λ r. ⌜ r ≡ best b (phyCandidate (now (phys .entry)) (phy .0)) ⌝ }
+{
+    if !tables::is_ready(phys, phy) {
+        return b;
+    }
+    let priority = tables::phy_priority(phys, phy);
+    if priority == 0 {
+        return b;
+    }
+    consider(b, priority, tables::phy_address(phys, phy))
+}
+
+// The best of b and a route record, likewise.
+fn with_route(b: Candidate, routes: &[u8], i: usize) -> Candidate
+    requires { ⌜ i < routeCount (now routes) ⌝ }
+    ensures { λ r. ⌜ r ≡ best b (routeCandidate (now (routes .entry)) i) ⌝ }
+{
+    let priority = tables::route_priority(routes, i);
+    if priority == 0 {
+        return b;
+    }
+    consider(b, priority, tables::route_address(routes, i))
+}
+
+// The best of b and the phy table.
+fn elect_phys(b: Candidate, phys: &[u8]) -> Candidate
+    requires { ⌜ Clear (physSize (now phys)) ⌝ }
+    ensures { λ r. ⌜ r ≡ best b (phyCandidates (now (phys .entry)) 0 (phyCount (now (phys .entry)))) ⌝ }
+{
+    let count = phys.len() / PHY_RECORD;
+    let mut so_far = b;
+    let mut i: usize = 0;
+    while i < count {
+        so_far = with_phy(so_far, phys, PhyNumber(i as u8));
+        i += 1;
+    }
+    so_far
+}
+
+// The best of b and the route table.
+fn elect_routes(b: Candidate, routes: &[u8]) -> Candidate
+    ensures { λ r. ⌜ r ≡ best b (routeCandidates (now (routes .entry)) 0 (routeCount (now (routes .entry)))) ⌝ }
+{
+    let count = routes.len() / ROUTE_RECORD;
+    let mut so_far = b;
+    let mut i: usize = 0;
+    while i < count {
+        so_far = with_route(so_far, routes, i);
+        i += 1;
+    }
+    so_far
+}
+
+// The phy table's best is carried into the route table.
+fn elect_both(phys: &[u8], routes: &[u8]) -> Candidate
+    requires { ⌜ Clear (physSize (now phys) ++ routesSize (now routes)) ⌝ }
+    ensures { λ r. ⌜ r ≡ elected (now (phys .entry)) (now (routes .entry)) ⌝ }
+{
+    let nobody = Candidate {
+        priority: 0,
+        address: 0,
+    };
+    let of_phys = elect_phys(nobody, phys);
+    elect_routes(of_phys, routes)
+}
+
+// The elected supervisor: the greatest candidate of both tables.
+pub fn elect(phys: &[u8], routes: &[u8]) -> Elected
+    ensures { λ r. ⌜ out (electedAs r) [] ≡ electOut (now (phys .entry)) (now (routes .entry)) ⌝ }
+{
+    let no = elect_refusal(phys, routes);
+    if no != 0 {
+        return Elected::Refused(no);
+    }
+    Elected::Supervisor(elect_both(phys, routes))
+}

@@ -1,0 +1,53 @@
+-- `links::attach` meets its contract.
+-- Assumes nothing.
+use lib.ListN.{length-set}
+use Rattle.links.proofs.LinkLaws.{attached, same-stored}
+use native.Mathlib.Omega.{arith}
+use borrow.Author.Needs.{needs}
+use Rattle.links.proofs.attach.Statement.{statement}
+use Rattle.links.proofs.attach.Tie as tie
+
+cast-i : tie.Need-cast-i
+cast-i c = search needs
+
+unzone-requires : tie.Need-unzone-requires
+unzone-requires c κs = search needs
+
+mul-phys : tie.Need-mul-phys
+mul-phys c = search needs
+
+add-phys : tie.Need-add-phys
+add-phys c = search needs
+
+slice-write-phys : tie.Need-slice-write-phys
+slice-write-phys c = search needs
+
+mul-store-address : tie.Need-mul-store-address
+mul-store-address c = search needs
+
+add-store-address : tie.Need-add-store-address
+add-store-address c = search needs
+
+store-address-requires : tie.Need-store-address-requires
+store-address-requires c κs = simp length-set (omega arith)
+
+same-length : tie.Need-same-length
+same-length c = search same-stored
+
+returns : tie.Need-returns
+returns c = search attached
+
+pub attach-spec : {M : Type 1} → statement M
+attach-spec =
+    tie.close
+    (tie.spec
+    cast-i
+    unzone-requires
+    mul-phys
+    add-phys
+    slice-write-phys
+    mul-store-address
+    add-store-address
+    store-address-requires
+    same-length
+    returns)

@@ -1,0 +1,14 @@
+-- `links::start_up_refusal` meets its contract.
+-- Assumes nothing.
+use Rattle.tables.proofs.RefusalLaws.{rows}
+use Rattle.links.proofs.start_up_refusal.Statement.{statement}
+use Rattle.links.proofs.start_up_refusal.Tie as tie
+
+returns : tie.Need-returns
+returns c = search rows depth 16
+
+returns-2 : tie.Need-returns-2
+returns-2 c = search rows depth 16
+
+pub start-up-refusal-spec : {M : Type 1} → statement M
+start-up-refusal-spec = tie.close (tie.spec returns returns-2)

@@ -1,0 +1,68 @@
+-- Start-up, and "Links": a phy leaves the ready state, or IDENTIFY arrives.
+use mathlib.Core.Bool.{Bool, cond, not, _&&_}
+use mathlib.Core.List.{List, [], _∷_, _++_}
+use Prim.Native.Nat.{ℕ, _+_, _*_, _/_, _%_}
+use lib.Dec.{eqb}
+use lib.ListN.{length, set}
+use lib.Seq.{paste}
+use Rattle.wire.specs.Address.{addressAt}
+use Rattle.tables.specs.Refusals.{Check, refuse, atMost, same, differ, off, on, firstRefusal}
+use Rattle.tables.specs.Outcome.{Answer, refusal, answer, Out, outcome}
+use Rattle.tables.specs.Phys.{phyRecord, phyCount, physSize, phyByte, phyAddress, ready, known, zoned}
+use Rattle.permit.specs.Permission.{startTable}
+use Rattle.links.specs.declared.Linked.{Linked}
+use Rattle.links.specs.declared.Linked.the-variants.{Refused, Done}
+
+-- the answer in document 01's numbers
+abbrev pub linkedAs : Linked → Answer
+linkedAs (Refused n) = refusal n
+linkedAs Done = answer []
+
+-- start-up: refusal 1; "Permission table: 2,048 bytes"
+abbrev pub startUpChecks : List ℕ → List Check
+startUpChecks permissions = refuse 1 (differ (length permissions) 2048) ∷ []
+
+-- "Start-up writes the permission table"; the buffers: the permission table
+abbrev pub startUpOut : List ℕ → Out
+startUpOut permissions = outcome (firstRefusal (startUpChecks permissions)) [] (permissions ∷ []) (startTable 16 ∷ [])
+
+-- leaving: refusals 1, 2, 7
+abbrev pub leavingChecks : List ℕ → ℕ → List Check
+leavingChecks phys phy =
+    physSize phys
+    ++ refuse 2 (atMost (phyCount phys) phy)
+    ∷ refuse 7 (off (ready phys phy))
+    ∷ []
+
+-- "Leaving ready clears bit 0 of byte 2 and keeps bit 1." "Both write bits 7 to 2 of byte 2 as zero." "Byte 3 stays."
+abbrev pub left : List ℕ → ℕ → List ℕ
+left phys phy = set phys (phyRecord * phy + 2) (phyByte phys phy 2 / 2 % 2 * 2)
+
+-- the buffers: the phy table
+abbrev pub leavingOut : List ℕ → ℕ → Out
+leavingOut phys phy = outcome (firstRefusal (leavingChecks phys phy)) [] (phys ∷ []) (left phys phy ∷ [])
+
+-- IDENTIFY: refusals 1, 2, 7 ("for IDENTIFY, already ready"), 5 ("IDENTIFY address zero")
+abbrev pub identifyChecks : List ℕ → ℕ → List ℕ → List Check
+identifyChecks phys phy address =
+    physSize phys
+    ++ refuse 2 (atMost (phyCount phys) phy)
+    ∷ refuse 7 (on (ready phys phy))
+    ∷ refuse 5 (same (addressAt address 0) 0)
+    ∷ []
+
+-- "If an address was known and differs"
+abbrev pub moved : List ℕ → ℕ → List ℕ → Bool
+moved phys phy address = known phys phy && not (eqb (phyAddress phys phy) (addressAt address 0))
+
+-- "bytes 0 and 1 become zero; otherwise bytes 0 and 1 stay"
+abbrev pub unzoned : List ℕ → ℕ → List ℕ → List ℕ
+unzoned phys phy address = cond (moved phys phy address) (zoned phys phy 0 0) phys
+
+-- "IDENTIFY sets both bits and stores the address." "Both write bits 7 to 2 of byte 2 as zero." "Byte 3 stays."
+unfoldable pub identified : List ℕ → ℕ → List ℕ → List ℕ
+identified phys phy address = paste (set (unzoned phys phy address) (phyRecord * phy + 2) 3) (phyRecord * phy + 4) address 8
+
+abbrev pub identifyOut : List ℕ → ℕ → List ℕ → Out
+identifyOut phys phy address =
+    outcome (firstRefusal (identifyChecks phys phy address)) [] (phys ∷ []) (identified phys phy address ∷ [])

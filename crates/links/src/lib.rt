@@ -1,0 +1,177 @@
+// Start-up, and link events: which group a disk is in after a cable is moved.
+use tables::PHY_RECORD;
+use wire::PhyNumber;
+ghost use mathlib.Core.Path.{_≡_};
+ghost use mathlib.Core.List.{[], _∷_};
+ghost use Prim.Native.Nat.{_+_, _<_, _≤_};
+ghost use lib.ListN.{length};
+ghost use lib.Seq.{paste};
+ghost use Rattle.tables.specs.Phys.{phyCount};
+ghost use Rattle.tables.specs.Refusals.{firstRefusal, Clear};
+ghost use Rattle.tables.specs.Outcome.{out};
+ghost use Rattle.links.specs.Links.{linkedAs, startUpChecks, startUpOut, leavingChecks, left, leavingOut, identifyChecks, moved, unzoned, identified, identifyOut};
+
+// Document 01's numbers for what these calls refuse.
+const WRONG_SIZE: u8 = 1;
+
+const NO_SUCH_PHY: u8 = 2;
+
+const ADDRESS_ZERO: u8 = 5;
+
+const NOT_READY: u8 = 7;
+
+const ALREADY_READY: u8 = 7;
+
+pub enum Linked {
+    Refused(u8),
+    Done,
+}
+
+// The refusal of start-up.
+fn start_up_refusal(permissions: &[u8]) -> u8
+    ensures { λ r. ⌜ r ≡ firstRefusal (startUpChecks (now (permissions .entry))) ⌝ }
+{
+    if permissions.len() != 2048 {
+        return WRONG_SIZE;
+    }
+    0
+}
+
+// Start-up: the permission table as it stands before any order.
+pub fn start_up(permissions: &mut [u8]) -> Linked
+    ensures { λ r. ⌜ out (linkedAs r) (now (permissions .exit) ∷ []) ≡ startUpOut (now (permissions .entry)) ⌝ }
+{
+    let no = start_up_refusal(permissions);
+    if no != 0 {
+        return Linked::Refused(no);
+    }
+    permit::start_table(permissions);
+    Linked::Done
+}
+
+// The refusals of leaving, in document 01's order.
+fn leaving_refusal(phys: &[u8], phy: PhyNumber) -> u8
+    ensures { λ r. ⌜ r ≡ firstRefusal (leavingChecks (now (phys .entry)) (phy .0)) ⌝ }
+{
+    if phys.len() % PHY_RECORD != 0 {
+        return WRONG_SIZE;
+    }
+    if phys.len() < PHY_RECORD {
+        return WRONG_SIZE;
+    }
+    if 128 * PHY_RECORD < phys.len() {
+        return WRONG_SIZE;
+    }
+    let i = phy.0 as usize;
+    if phys.len() / PHY_RECORD <= i {
+        return NO_SUCH_PHY;
+    }
+    if !tables::is_ready(phys, phy) {
+        return NOT_READY;
+    }
+    0
+}
+
+// Byte 2 keeps only that the address is known: the disk may come back.
+fn leave(phys: &mut [u8], phy: PhyNumber)
+    requires { ⌜ Clear (leavingChecks (now phys) (phy .0)) ⌝ }
+    ensures { λ _. ⌜ now (phys .exit) ≡ left (now (phys .entry)) (phy .0) ⌝ }
+{
+    let i = phy.0 as usize;
+    let flags = phys[PHY_RECORD * i + 2];
+    phys[PHY_RECORD * i + 2] = flags / 2 % 2 * 2;
+}
+
+// A phy leaves the ready state.
+pub fn leaving(phys: &mut [u8], phy: PhyNumber) -> Linked
+    ensures { λ r. ⌜ out (linkedAs r) (now (phys .exit) ∷ []) ≡ leavingOut (now (phys .entry)) (phy .0) ⌝ }
+{
+    let no = leaving_refusal(phys, phy);
+    if no != 0 {
+        return Linked::Refused(no);
+    }
+    leave(phys, phy);
+    Linked::Done
+}
+
+// The refusals of IDENTIFY, in document 01's order.
+fn identify_refusal(phys: &[u8], phy: PhyNumber, address: &[u8; 8]) -> u8
+    ensures { λ r. ⌜ r ≡ firstRefusal (identifyChecks (now (phys .entry)) (phy .0) (now (address .entry))) ⌝ }
+{
+    if phys.len() % PHY_RECORD != 0 {
+        return WRONG_SIZE;
+    }
+    if phys.len() < PHY_RECORD {
+        return WRONG_SIZE;
+    }
+    if 128 * PHY_RECORD < phys.len() {
+        return WRONG_SIZE;
+    }
+    let i = phy.0 as usize;
+    if phys.len() / PHY_RECORD <= i {
+        return NO_SUCH_PHY;
+    }
+    if tables::is_ready(phys, phy) {
+        return ALREADY_READY;
+    }
+    if wire::address_at(address, 0) == 0 {
+        return ADDRESS_ZERO;
+    }
+    0
+}
+
+// Whether an address was known and differs: another disk is attached now.
+fn moved(phys: &[u8], phy: PhyNumber, address: &[u8; 8]) -> bool
+    requires { ⌜ phy .0 < phyCount (now phys) ⌝ }
+    ensures { λ r. ⌜ r ≡ moved (now (phys .entry)) (phy .0) (now (address .entry)) ⌝ }
+{
+    if !tables::is_known(phys, phy) {
+        return false;
+    }
+    tables::phy_address(phys, phy) != wire::address_at(address, 0)
+}
+
+// Another disk does not inherit the group, the priority or the participation of the one before it.
+fn unzone(phys: &mut [u8], phy: PhyNumber, address: &[u8; 8])
+    requires { ⌜ phy .0 < phyCount (now phys) ⌝ }
+    ensures { λ _. ⌜ now (phys .exit) ≡ unzoned (now (phys .entry)) (phy .0) (now (address .entry)) ⌝ }
+{
+    if moved(phys, phy, address) {
+        tables::write_zone(phys, phy, 0, 0);
+    }
+}
+
+// The eight bytes of an address, from `at` on.
+fn store_address(phys: &mut [u8], at: usize, address: &[u8])
+    requires { ⌜ (at + 8 ≤ length (now phys)) × (8 ≤ length (now address)) ⌝ }
+    ensures { λ _. ⌜ now (phys .exit) ≡ paste (now (phys .entry)) at (now (address .entry)) 8 ⌝ }
+{
+    let mut k: usize = 0;
+    while k < 8 {
+        phys[at + k] = address[k];
+        k += 1;
+    }
+}
+
+// Byte 2 says ready, address known.
+fn attach(phys: &mut [u8], phy: PhyNumber, address: &[u8; 8])
+    requires { ⌜ Clear (identifyChecks (now phys) (phy .0) (now address)) ⌝ }
+    ensures { λ _. ⌜ now (phys .exit) ≡ identified (now (phys .entry)) (phy .0) (now (address .entry)) ⌝ }
+{
+    let i = phy.0 as usize;
+    unzone(phys, phy, address);
+    phys[PHY_RECORD * i + 2] = 3;
+    store_address(phys, PHY_RECORD * i + 4, address);
+}
+
+// IDENTIFY arrives on a phy, with the attached SAS address.
+pub fn identify(phys: &mut [u8], phy: PhyNumber, address: &[u8; 8]) -> Linked
+    ensures { λ r. ⌜ out (linkedAs r) (now (phys .exit) ∷ []) ≡ identifyOut (now (phys .entry)) (phy .0) (now (address .entry)) ⌝ }
+{
+    let no = identify_refusal(phys, phy, address);
+    if no != 0 {
+        return Linked::Refused(no);
+    }
+    attach(phys, phy, address);
+    Linked::Done
+}

@@ -1,0 +1,23 @@
+-- What the two halves of a batch row leave: the row itself, and then its column.
+use mathlib.Core.Path.{_≡_}
+use mathlib.Core.Bool.{Bool, cond, _&&_}
+use mathlib.Core.List.{List}
+use Prim.Native.Nat.{ℕ, _^_, _<_}
+use lib.Dec.{eqb, leb}
+use lib.ListN.{length}
+use Rattle.wire.specs.Bits.{setBit}
+use Rattle.permit.specs.Permission.{groups, P}
+
+-- r is x with the bit made v that m is the mask of
+abbrev pub Masked : ℕ → ℕ → Bool → ℕ → Type 0
+Masked x m v r = (k : ℕ) → k < 8 → m ≡ 2 ^ k → r ≡ setBit x k v
+
+-- row r of u says f from group 2 on; all else is t's
+pub record RowIs (w : ℕ) (f : ℕ → Bool) (r : ℕ) (t u : List ℕ) : Type 0 where
+  pub sized : length u ≡ length t
+  pub says : (c d : ℕ) → c < groups w → d < groups w → P w u c d ≡ cond (eqb c r && leb 2 d) (f d) (P w t c d)
+
+-- the rows from 2 on say f of group r; all else is t's
+pub record ColumnIs (w : ℕ) (f : ℕ → Bool) (r : ℕ) (t u : List ℕ) : Type 0 where
+  pub sized : length u ≡ length t
+  pub says : (c d : ℕ) → c < groups w → d < groups w → P w u c d ≡ cond (eqb d r && leb 2 c) (f c) (P w t c d)

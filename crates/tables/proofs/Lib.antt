@@ -1,0 +1,3 @@
+pub mod RefusalLaws
+pub mod OutcomeLaws
+pub mod PhyLaws

@@ -1,0 +1,42 @@
+-- Laws of phy records.
+-- Assumes nothing.
+use mathlib.Core.Path.{_≡_, refl, sym, ap, _∙_}
+use mathlib.Core.Bool.{Bool, true, false}
+use mathlib.Core.List.{List, [], _∷_, _++_}
+use Prim.Native.Nat.{ℕ, zero, suc, _+_, _*_, _/_, _%_, _≤_, _<_}
+use native.Mathlib.Nat.{add-zero}
+use native.Mathlib.Omega.{arith}
+use lib.Dec.{eqb}
+use lib.ListN.{length, getD, drop, List·getD-eq-default, length-set}
+use Rattle.wire.specs.Bits.{tab}
+use Rattle.wire.specs.PhySet.{member}
+use Rattle.wire.proofs.Loops.{Filled, fill-end}
+use Rattle.wire.proofs.Sets.{member-setOf}
+use Rattle.tables.specs.Phys.{phyCount, phyByte, ready, readySet, emptySet, zoned}
+
+-- byte 0, as the code reads it
+pub byte0 : (phys : List ℕ) (i : ℕ) → getD phys (12 * i) 0 ≡ phyByte phys i 0
+byte0 phys i = ap (λ (k : ℕ). getD phys k 0) (sym (add-zero (12 * i)))
+
+-- past the last record no phy is ready
+pub ready-out : (phys : List ℕ) (i : ℕ) → length phys % 12 ≡ 0 → phyCount phys ≤ i → false ≡ ready phys i
+ready-out phys i w h =
+    let l : length phys ≤ 12 * i + 2 = omega arith in
+    ap (λ (x : ℕ). eqb (x % 2) 1) (sym (List·getD-eq-default phys 0 l))
+
+pub length-zoned : (phys : List ℕ) (i b0 b1 : ℕ) → length (zoned phys i b0 b1) ≡ length phys
+unfolding zoned
+length-zoned phys i b0 b1 = simp length-set
+
+-- a phy is in the set of all ready phys exactly if it is ready
+pub member-ready : (phys : List ℕ) (i : ℕ) → i < 128 → member (readySet phys) i ≡ ready phys i
+unfolding readySet
+member-ready phys i h = member-setOf (ready phys) i h
+
+-- sixteen zeros
+zeros-tab : tab (λ (k : ℕ). 0) 0 16 ≡ emptySet
+unfolding tab emptySet
+zeros-tab = refl
+
+pub empty-end : (s₀ s : List ℕ) (k : ℕ) → 16 ≤ k → Filled (λ (i : ℕ). 0) 16 s₀ s k → s ≡ emptySet ++ drop 16 s₀
+empty-end s₀ s k h r = fill-end (λ (i : ℕ). 0) 16 s₀ s k h r ∙ ap (λ (l : List ℕ). l ++ drop 16 s₀) zeros-tab

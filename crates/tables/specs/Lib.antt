@@ -1,0 +1,4 @@
+pub mod Refusals
+pub mod Outcome
+pub mod Phys
+pub mod Routes

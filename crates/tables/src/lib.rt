@@ -1,0 +1,150 @@
+// Phy records, route records and the set of all ready phys.
+use wire::PhyNumber;
+use wire::ZoneGroup;
+ghost use mathlib.Core.Path.{_≡_};
+ghost use mathlib.Core.List.{_++_};
+ghost use Prim.Native.Nat.{_+_, _*_, _%_, _<_, _≤_};
+ghost use lib.ListN.{length, drop};
+ghost use Rattle.wire.specs.PhySet.{setByte};
+ghost use Rattle.tables.specs.Phys.{phyCount, participating, phyPriority, phyGroup, phyAddress, ready, known, readySet, emptySet, zoned};
+ghost use Rattle.tables.specs.Routes.{routeCount, routeAddress, routePhy, routeGroup, routePriority};
+
+// The bytes of a phy record, and of a route record.
+pub const PHY_RECORD: usize = 12;
+
+pub const ROUTE_RECORD: usize = 12;
+
+pub fn is_participating(phys: &[u8], phy: PhyNumber) -> bool
+    requires { ⌜ phy .0 < phyCount (now phys) ⌝ }
+    ensures { λ r. ⌜ r ≡ participating (now (phys .entry)) (phy .0) ⌝ }
+{
+    let i = phy.0 as usize;
+    phys[PHY_RECORD * i] / 16 % 2 == 1
+}
+
+pub fn phy_priority(phys: &[u8], phy: PhyNumber) -> u8
+    requires { ⌜ phy .0 < phyCount (now phys) ⌝ }
+    ensures { λ r. ⌜ r ≡ phyPriority (now (phys .entry)) (phy .0) ⌝ }
+{
+    let i = phy.0 as usize;
+    phys[PHY_RECORD * i] % 16
+}
+
+pub fn phy_group(phys: &[u8], phy: PhyNumber) -> ZoneGroup
+    requires { ⌜ phy .0 < phyCount (now phys) ⌝ }
+    ensures { λ r. ⌜ r .0 ≡ phyGroup (now (phys .entry)) (phy .0) ⌝ }
+{
+    let i = phy.0 as usize;
+    wire::group_of(phys[PHY_RECORD * i + 1])
+}
+
+pub fn is_ready(phys: &[u8], phy: PhyNumber) -> bool
+    requires { ⌜ phy .0 < phyCount (now phys) ⌝ }
+    ensures { λ r. ⌜ r ≡ ready (now (phys .entry)) (phy .0) ⌝ }
+{
+    let i = phy.0 as usize;
+    phys[PHY_RECORD * i + 2] % 2 == 1
+}
+
+pub fn is_known(phys: &[u8], phy: PhyNumber) -> bool
+    requires { ⌜ phy .0 < phyCount (now phys) ⌝ }
+    ensures { λ r. ⌜ r ≡ known (now (phys .entry)) (phy .0) ⌝ }
+{
+    let i = phy.0 as usize;
+    phys[PHY_RECORD * i + 2] / 2 % 2 == 1
+}
+
+pub fn phy_address(phys: &[u8], phy: PhyNumber) -> u64
+    requires { ⌜ phy .0 < phyCount (now phys) ⌝ }
+    ensures { λ r. ⌜ r ≡ phyAddress (now (phys .entry)) (phy .0) ⌝ }
+{
+    let i = phy.0 as usize;
+    wire::address_at(phys, PHY_RECORD * i + 4)
+}
+
+// Bytes 0 and 1 of a record, reserved bits zero.
+pub fn write_zone(phys: &mut [u8], phy: PhyNumber, first: u8, group: u8)
+    requires { ⌜ phy .0 < phyCount (now phys) ⌝ }
+    ensures { λ _. ⌜ now (phys .exit) ≡ zoned (now (phys .entry)) (phy .0) first group ⌝ }
+{
+    let i = phy.0 as usize;
+    phys[PHY_RECORD * i] = first % 32;
+    phys[PHY_RECORD * i + 1] = group % 128;
+}
+
+pub fn route_address(routes: &[u8], i: usize) -> u64
+    requires { ⌜ i < routeCount (now routes) ⌝ }
+    ensures { λ r. ⌜ r ≡ routeAddress (now (routes .entry)) i ⌝ }
+{
+    wire::address_at(routes, ROUTE_RECORD * i)
+}
+
+pub fn route_phy(routes: &[u8], i: usize) -> PhyNumber
+    requires { ⌜ i < routeCount (now routes) ⌝ }
+    ensures { λ r. ⌜ r .0 ≡ routePhy (now (routes .entry)) i ⌝ }
+{
+    PhyNumber(routes[ROUTE_RECORD * i + 8])
+}
+
+pub fn route_group(routes: &[u8], i: usize) -> ZoneGroup
+    requires { ⌜ i < routeCount (now routes) ⌝ }
+    ensures { λ r. ⌜ r .0 ≡ routeGroup (now (routes .entry)) i ⌝ }
+{
+    wire::outside_group(routes[ROUTE_RECORD * i + 9])
+}
+
+pub fn route_priority(routes: &[u8], i: usize) -> u8
+    requires { ⌜ i < routeCount (now routes) ⌝ }
+    ensures { λ r. ⌜ r ≡ routePriority (now (routes .entry)) i ⌝ }
+{
+    routes[ROUTE_RECORD * i + 10] % 16
+}
+
+// Whether there is a phy i and it is ready.
+fn ready_at(phys: &[u8], i: usize) -> bool
+    requires { ⌜ length (now phys) % 12 ≡ 0 ⌝ }
+    ensures { λ r. ⌜ r ≡ ready (now (phys .entry)) i ⌝ }
+{
+    if phys.len() / PHY_RECORD <= i {
+        return false;
+    }
+    phys[PHY_RECORD * i + 2] % 2 == 1
+}
+
+// Byte k of the set, from its highest bit down.
+fn ready_byte(phys: &[u8], k: usize) -> u8
+    requires { ⌜ (length (now phys) % 12 ≡ 0) × (k < 16) ⌝ }
+    ensures { λ r. ⌜ r ≡ setByte (ready (now (phys .entry))) k ⌝ }
+{
+    let mut byte: u8 = 0;
+    let mut j: usize = 8;
+    while 0 < j {
+        j -= 1;
+        byte = byte * 2 + ready_at(phys, 8 * k + j) as u8;
+    }
+    byte
+}
+
+// The set of all ready phys, in the first sixteen bytes.
+pub fn write_ready_set(phys: &[u8], set: &mut [u8])
+    requires { ⌜ (length (now phys) % 12 ≡ 0) × (16 ≤ length (now set)) ⌝ }
+    ensures { λ _. ⌜ now (set .exit) ≡ readySet (now (phys .entry)) ++ drop 16 (now (set .entry)) ⌝ }
+{
+    let mut k: usize = 0;
+    while k < 16 {
+        set[k] = ready_byte(phys, k);
+        k += 1;
+    }
+}
+
+// The empty set.
+pub fn write_empty_set(set: &mut [u8])
+    requires { ⌜ 16 ≤ length (now set) ⌝ }
+    ensures { λ _. ⌜ now (set .exit) ≡ emptySet ++ drop 16 (now (set .entry)) ⌝ }
+{
+    let mut k: usize = 0;
+    while k < 16 {
+        set[k] = 0;
+        k += 1;
+    }
+}

@@ -12,7 +12,7 @@ use lib.Dec.{eqb}
 use lib.ListN.{length, getD, drop, List·getD-eq-default}
 use Rattle.wire.specs.Groups.{outsideGroup}
 use Rattle.wire.specs.PhySet.{member, setOf, tally, physIn}
-use Rattle.wire.proofs.Sets.{member-setOf, member-head, length-setOf, tally-same, tally-le, tally-add}
+use Rattle.wire.proofs.Sets.{member-setOf, length-setOf, count-front, tally-le, tally-add}
 use Rattle.permit.specs.Permission.{P}
 use Rattle.tables.specs.Refusals.{Check, refuse, below, same, differ, off, firstRefusal}
 use Rattle.tables.specs.Phys.{phyCount, phyByte, phyGroup, participating, ready}
@@ -22,13 +22,6 @@ use Rattle.tables.proofs.OutcomeLaws.{gives}
 use Rattle.tables.proofs.PhyLaws.{ready-out}
 use Rattle.broadcasts.specs.Inner.{Shelf, Announced}
 use Rattle.broadcasts.specs.Broadcasts.{told, toldSet, frameOf, announced, arrivalChecks, primitiveChecks, frameChecks, typeOf, typedLength}
-
--- a callee's number x is v, and a was held against x
-pub held-same : {a x v : ℕ} → x ≡ v → a ≡ x → a ≡ v
-held-same e h = h ∙ e
-
-pub held-differ : {a x v : ℕ} → x ≡ v → (a ≡ x → ⊥) → a ≡ v → ⊥
-held-differ e h q = h (q ∙ sym e)
 
 -- ---- the calls' own rows, after those that both check
 module _ (phys permissions : List ℕ) (phy room space r : ℕ) (e : r ≡ firstRefusal (arrivalChecks phys permissions phy room space)) where
@@ -98,14 +91,6 @@ unfolding toldSet
 length-told phys permissions phy source = length-setOf _
 
 -- ---- the count
--- the phys of a set that stands at the head of a buffer
-pub count-head : (phys permissions : List ℕ) (phy source : ℕ) (s rest : List ℕ) → s ≡ toldSet phys permissions phy source ++ rest
-    → physIn s ≡ physIn (toldSet phys permissions phy source)
-unfolding physIn toldSet
-count-head phys permissions phy source s rest e =
-    ap (λ (l : List ℕ). tally (member l) 0 128) e
-    ∙ tally-same _ _ 0 128 (λ k l u. member-head _ rest k (omega arith) ∙ sym (member-setOf _ k (omega arith)))
-
 -- no phy from n on, and not p, is counted
 none-counted : (f : ℕ → Bool) (i n : ℕ) → ((k : ℕ) → i ≤ k → k < i + n → f k ≡ false) → tally f i n ≡ 0
 unfolding tally
@@ -143,7 +128,7 @@ module _ (phys permissions : List ℕ) (phy source number : ℕ) (set frame : Li
   pub announce-done : (count : ℕ) (set₁ frame₁ : List ℕ) → count ≡ physIn set₁ → set₁ ≡ toldSet phys permissions phy source ++ drop 16 set
       → frame₁ ≡ frameOf number source ++ drop 28 frame → Announced phys permissions phy source number set frame count set₁ frame₁
   announce-done count set₁ frame₁ e es ef = record {
-    counted = e ∙ count-head phys permissions phy source set₁ (drop 16 set) es;
+    counted = e ∙ ap physIn es ∙ count-front _ (drop 16 set) (length-told phys permissions phy source);
     told = es;
     framed = ef;
   }

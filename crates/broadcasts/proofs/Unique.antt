@@ -9,10 +9,10 @@ use Rattle.broadcasts.specs.declared.Told.the-variants.{Refused, Count}
 use Rattle.broadcasts.specs.Broadcasts.{toldAs, primitiveOut, broadcastOut}
 
 -- two answers that say the same in document 01's numbers are the same
-one-answer : (r q : Told) → toldAs r ≡ toldAs q → r ≡ q
+pub one-answer : (r q : Told) → toldAs r ≡ toldAs q → r ≡ q
 one-answer (Refused n) (Refused m) e = cc
-one-answer (Refused n) (Count m) e = let z : _≡_ {A = ℕ} 0 1 = cc in cc
-one-answer (Count n) (Refused m) e = let z : _≡_ {A = ℕ} 0 1 = cc in cc
+one-answer (Refused n) (Count m) e = cc
+one-answer (Count n) (Refused m) e = cc
 one-answer (Count n) (Count m) e = cc
 
 same : (o : Out) (r q : Told) (s t f g : List ℕ) → out (toldAs r) (s ∷ f ∷ []) ≡ o → out (toldAs q) (t ∷ g ∷ []) ≡ o → (r ≡ q) × (s ≡ t) × (f ≡ g)

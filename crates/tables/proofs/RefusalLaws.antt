@@ -61,6 +61,19 @@ agrees e h = sym e ∙ h
 pub agrees-not : {x v w : Bool} → x ≡ v → not x ≡ w → not v ≡ w
 agrees-not e h = rw (← e) h
 
+-- a callee's number x is v, and x was held against a
+pub held-same : {a x v : ℕ} → x ≡ v → a ≡ x → a ≡ v
+held-same e h = h ∙ e
+
+pub held-differ : {a x v : ℕ} → x ≡ v → (a ≡ x → ⊥) → a ≡ v → ⊥
+held-differ e h q = h (q ∙ sym e)
+
+pub held-above : {a x v : ℕ} → x ≡ v → a < x → a < v
+held-above e h = rw (← e) h
+
+pub held-atMost : {a x v : ℕ} → x ≡ v → x ≤ a → v ≤ a
+held-atMost e h = rw (← e) h
+
 -- the answer to each return of a function that computes the number: `search rows depth 16`
 pub ruleset rows = (first, here, next, none, agrees, agrees-not)
 

@@ -53,16 +53,6 @@ member-setOf f i h =
     ∙ ap (λ (x : ℕ). eqb x 1) (bit-bits f (8 * (0 + i / 8)) 8 (i % 8) (omega arith) ∙ ap (λ (m : ℕ). num (f m)) e)
     ∙ eqb-num (f i)
 
--- and so where the set stands at the head of a buffer
-pub member-head : (f : ℕ → Bool) (rest : List ℕ) (i : ℕ) → i < 128 → member (setOf f ++ rest) i ≡ f i
-unfolding member
-member-head f rest i h =
-    let l : i / 8 < length (setOf f) = omega (arith, length-setOf f) in
-    ap (λ (x : ℕ). eqb (bit x (i % 8)) 1) (List·getD-append (setOf f) rest 0 (i / 8) l) ∙ member-open f i h
-  where
-    member-open : (f : ℕ → Bool) (i : ℕ) → i < 128 → eqb (bit (getD (setOf f) (i / 8) 0) (i % 8)) 1 ≡ f i
-    member-open f i h = member-setOf f i h
-
 -- ---- the loop that makes a byte, from its highest bit down
 bits-room : (f : ℕ → Bool) (i n b : ℕ) → b ≡ bitsOf f i n → n ≤ 7 → b < 128
 bits-room f i n b e h =
@@ -122,6 +112,17 @@ unfolding tally
 tally-same f g i zero h = refl
 tally-same f g i (suc n) h =
     ap₂ (λ (a b : ℕ). a + b) (ap num (h i (omega arith) (omega arith))) (tally-same f g (suc i) n (λ k l u. h k (omega arith) (omega arith)))
+
+-- sixteen bytes at the head of a buffer are the set
+member-front : (s rest : List ℕ) (i : ℕ) → length s ≡ 16 → i < 128 → member (s ++ rest) i ≡ member s i
+unfolding member
+member-front s rest i l h =
+    let k : i / 8 < length s = omega arith in
+    ap (λ (x : ℕ). eqb (bit x (i % 8)) 1) (List·getD-append s rest 0 (i / 8) k)
+
+pub count-front : (s rest : List ℕ) → length s ≡ 16 → physIn (s ++ rest) ≡ physIn s
+unfolding physIn
+count-front s rest l = tally-same (member (s ++ rest)) (member s) 0 128 (λ k a b. member-front s rest k l (omega arith))
 
 -- the eight phys of byte k
 bit-byte : (s : List ℕ) (k j : ℕ) → j < 8 → num (member s (8 * k + j)) ≡ getD s k 0 / 2 ^ j % 2

@@ -1,7 +1,7 @@
 -- `broadcasts::frame_refusal` meets its contract.
 -- Assumes nothing.
-use Rattle.tables.proofs.RefusalLaws.{first, here, next, none, agrees, agrees-not}
-use Rattle.broadcasts.proofs.BroadcastLaws.{frame-front, frame-back, arrival-there, held-same, held-differ}
+use Rattle.tables.proofs.RefusalLaws.{first, here, next, none, agrees, agrees-not, held-same, held-differ}
+use Rattle.broadcasts.proofs.BroadcastLaws.{frame-front, frame-back, arrival-there}
 use borrow.Author.Needs.{needs}
 use Rattle.broadcasts.proofs.frame_refusal.Statement.{statement}
 use Rattle.broadcasts.proofs.frame_refusal.Tie as tie

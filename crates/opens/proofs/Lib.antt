@@ -1,0 +1,4 @@
+pub mod SearchLaws
+pub mod OpenLaws
+pub mod OpenSteps
+pub mod Unique

@@ -1,0 +1,64 @@
+-- What an OPEN frame may reach: it is forwarded only where the permission is on.
+-- Assumes nothing.
+use mathlib.Core.Path.{_≡_, refl, ap, _∙_}
+use mathlib.Core.Bool.{Bool, true, false, cond}
+use mathlib.Core.List.{List}
+use Prim.Native.Nat.{ℕ, _%_, _<_}
+use native.Mathlib.Omega.{arith}
+use borrow.Author.Tests.{eqb-false}
+use lib.Dec.{eqb}
+use lib.ListN.{getD}
+use Rattle.wire.specs.declared.PhyNumber.{PhyNumber}
+use Rattle.wire.specs.declared.ZoneGroup.{ZoneGroup}
+use Rattle.permit.specs.Permission.{P}
+use Rattle.tables.specs.Phys.{phyGroup, participating}
+use Rattle.opens.specs.declared.Found.{Found}
+use Rattle.opens.specs.declared.Found.the-variants.{At, Nothing}
+use Rattle.opens.specs.declared.Opened.the-variants.{BadDestination, ZoneViolation, Forward}
+use Rattle.opens.specs.Search.{search}
+use Rattle.opens.specs.Open.{openSource, judge, opened}
+
+-- ---- the source group is a group
+source-cond : (c : Bool) (x y : ℕ) → x < 128 → y < 128 → cond c x y < 128
+source-cond true x y h l = h
+source-cond false x y h l = l
+
+pub source-lt : (phys : List ℕ) (phy : ℕ) (frame : List ℕ) → openSource phys phy frame < 128
+unfolding openSource
+source-lt phys phy frame = source-cond (participating phys phy) (getD frame 20 0 % 128) (phyGroup phys phy) (omega arith) (omega arith)
+
+-- ---- a frame that is forwarded
+module _ (phys permissions : List ℕ) (phy : ℕ) (frame : List ℕ) (p : PhyNumber) where
+  -- it went out on p by the finding f
+  abbrev Reached : Found → Type 0
+  Reached f =
+      (g : ZoneGroup) × (f ≡ At p g) × (P 16 permissions (openSource phys phy frame) (g .0) ≡ true) × (p .0 ≡ phy → ⊥)
+
+  by-tests : (q : PhyNumber) (g : ZoneGroup) (a b : Bool) → eqb (q .0) phy ≡ a → P 16 permissions (openSource phys phy frame) (g .0) ≡ b
+      → cond a BadDestination (cond b (Forward q) ZoneViolation) ≡ Forward p → Reached (At q g)
+  by-tests q g true b ea eb e = let z : _≡_ {A = ℕ} 0 1 = cc in absurd (omega arith)
+  by-tests q g false false ea eb e = let z : _≡_ {A = ℕ} 0 1 = cc in absurd (omega arith)
+  by-tests q g false true ea eb e =
+      let s : q ≡ p = cc in
+      (g, ap (λ (x : PhyNumber). At x g) s, eb, λ h. eqb-false (q .0) phy ea (ap (λ (x : PhyNumber). x .0) s ∙ h))
+
+  reached : (f : Found) → judge phys permissions phy frame f ≡ Forward p → Reached f
+  unfolding judge
+  reached Nothing e = let z : _≡_ {A = ℕ} 0 1 = cc in absurd (omega arith)
+  reached (At q g) e = by-tests q g (eqb (q .0) phy) (P 16 permissions (openSource phys phy frame) (g .0)) refl refl e
+
+module _ (phys routes permissions : List ℕ) (phy : ℕ) (frame : List ℕ) where
+  -- the phy that the search found, by a permission that is on, and not back to the arriving phy
+  pub forward-permitted : (p : PhyNumber) → opened phys routes permissions phy frame ≡ Forward p
+      → (g : ZoneGroup) × (search phys routes frame ≡ At p g) × (P 16 permissions (openSource phys phy frame) (g .0) ≡ true) × (p .0 ≡ phy → ⊥)
+  forward-permitted p e = reached phys permissions phy frame p (search phys routes frame) e
+
+  -- where the permission is off nothing is forwarded, on no phy
+  pub barred : (p : PhyNumber) (g : ZoneGroup) → search phys routes frame ≡ At p g → P 16 permissions (openSource phys phy frame) (g .0) ≡ false
+      → (q : PhyNumber) → opened phys routes permissions phy frame ≡ Forward q → ⊥
+  barred p g s off q e =
+      let r = forward-permitted q e in
+      let same : g ≡ r .0 = cc (r .1) in
+      let on : P 16 permissions (openSource phys phy frame) (g .0) ≡ true = ap (λ (x : ZoneGroup). P 16 permissions (openSource phys phy frame) (x .0)) same ∙ r .2 in
+      let z : _≡_ {A = ℕ} 0 1 = cc in
+      omega arith

@@ -1,0 +1,135 @@
+-- The ways out of the functions that judge and write a frame.
+-- Assumes nothing.
+use mathlib.Core.Path.{_≡_, refl, sym, ap, _∙_}
+use mathlib.Core.Bool.{Bool, true, false, cond, not}
+use mathlib.Core.List.{List, [], _∷_, _++_}
+use Prim.Native.Nat.{ℕ, _+_, _*_, _/_, _%_, _<_, _≤_}
+use native.Mathlib.Nat.{zero-add}
+use native.Mathlib.Omega.{arith}
+use borrow.Author.Tests.{eq-eqb, ne-eqb, lt-ltb, le-ltb, not-true, not-false}
+use mir.Syntax.{w8}
+use mir.Val.{Fits}
+use lib.Dec.{eqb}
+use lib.ListN.{length, getD, set, drop}
+use lib.Seq.{set-append-left, ext-getD}
+use Rattle.wire.specs.Bits.{tab}
+use Rattle.wire.proofs.Loops.{length-tab, getD-tab, Filled, fill-end}
+use Rattle.permit.specs.Permission.{P}
+use Rattle.tables.specs.Refusals.{firstRefusal}
+use Rattle.tables.specs.Outcome.{answer, out}
+use Rattle.tables.proofs.OutcomeLaws.{gives}
+use Rattle.wire.specs.declared.PhyNumber.{PhyNumber}
+use Rattle.wire.specs.declared.ZoneGroup.{ZoneGroup}
+use Rattle.tables.specs.Phys.{phyCount, phyGroup, phyPriority, participating, ready}
+use Rattle.opens.specs.declared.Found.{Found}
+use Rattle.opens.specs.declared.Found.the-variants.{At, Nothing}
+use Rattle.opens.specs.declared.Opened.{Opened}
+use Rattle.opens.specs.declared.Opened.the-variants.{NoDestination, BadDestination, ZoneViolation, Forward}
+use Rattle.opens.specs.Search.{usable, search}
+use Rattle.opens.specs.Open.{valuesOf, openedAs, openChecks, openSource, judge, byte20, sent, openOut}
+use Rattle.opens.proofs.OpenLaws.{source-lt}
+
+-- ---- is_usable
+pub unusable : (phys : List ℕ) (p : ℕ) → phyCount phys ≤ p → false ≡ usable phys p
+unusable phys p h = rw (le-ltb _ _ h)
+
+pub usable-ready : (phys : List ℕ) (p : ℕ) (r : Bool) → p < phyCount phys → r ≡ ready phys p → r ≡ usable phys p
+usable-ready phys p r h e = rw (lt-ltb _ _ h) e
+
+-- ---- open_source
+pub source-carried : (phys : List ℕ) (phy : ℕ) (frame : List ℕ) (b : Bool) (x : ℕ) → b ≡ participating phys phy → not b ≡ false → x ≡ getD frame 20 0 % 128 → x ≡ openSource phys phy frame
+unfolding openSource
+source-carried phys phy frame b x e t ex = rw (sym e ∙ not-false b t) ex
+
+pub source-own : (phys : List ℕ) (phy : ℕ) (frame : List ℕ) (b : Bool) (x : ℕ) → b ≡ participating phys phy → not b ≡ true → x ≡ phyGroup phys phy → x ≡ openSource phys phy frame
+unfolding openSource
+source-own phys phy frame b x e t ex = rw (sym e ∙ not-true b t) ex
+
+pub source-small : (phys : List ℕ) (phy : ℕ) (frame : List ℕ) (s : ℕ) → s ≡ openSource phys phy frame → s < 128
+source-small phys phy frame s e = omega (arith, source-lt phys phy frame)
+
+-- ---- byte20
+pub carried-fits : (phys : List ℕ) (phy : ℕ) (frame : List ℕ) (s x : ℕ) → s ≡ openSource phys phy frame → x < 256 → Fits w8 (x / 128 * 128 + s)
+carried-fits phys phy frame s x e h = omega (arith, source-lt phys phy frame)
+
+pub managed-fits : (phys : List ℕ) (phy : ℕ) (frame : List ℕ) (s : ℕ) → s ≡ openSource phys phy frame → Fits w8 (128 + s)
+managed-fits phys phy frame s e = omega (arith, source-lt phys phy frame)
+
+module _ (phys : List ℕ) (phy : ℕ) (frame : List ℕ) (to : ℕ) (t : Bool) (et : t ≡ participating phys to) where
+  pub cleared : not t ≡ true → 0 ≡ byte20 phys phy frame to
+  unfolding byte20
+  cleared h = rw (sym et ∙ not-true t h)
+
+  pub carried : (b : Bool) (s : ℕ) → not t ≡ false → b ≡ participating phys phy → b ≡ true → s ≡ openSource phys phy frame → getD frame 20 0 / 128 * 128 + s ≡ byte20 phys phy frame to
+  unfolding byte20
+  carried b s h e k es = rw (sym et ∙ not-false t h, sym e ∙ k, es)
+
+  pub managed : (b : Bool) (s m : ℕ) → not t ≡ false → b ≡ participating phys phy → b ≡ false → m ≡ phyPriority phys phy → 0 < m → s ≡ openSource phys phy frame → 128 + s ≡ byte20 phys phy frame to
+  unfolding byte20
+  managed b s m h e k em l es =
+      let g : 0 < phyPriority phys phy = omega arith in
+      rw (sym et ∙ not-false t h, sym e ∙ k, lt-ltb _ _ g, es)
+
+  pub unmanaged : (b : Bool) (s m : ℕ) → not t ≡ false → b ≡ participating phys phy → b ≡ false → m ≡ phyPriority phys phy → m ≤ 0 → s ≡ openSource phys phy frame → s ≡ byte20 phys phy frame to
+  unfolding byte20
+  unmanaged b s m h e k em l es =
+      let g : phyPriority phys phy ≤ 0 = omega arith in
+      rw (sym et ∙ not-false t h, sym e ∙ k, le-ltb _ _ g, es) (omega arith)
+
+-- ---- write_frame
+copied : (frame : List ℕ) → length frame ≡ 28 → tab (λ (i : ℕ). getD frame i 0) 0 28 ≡ frame
+copied frame l =
+    ext-getD 0 (tab (λ (i : ℕ). getD frame i 0) 0 28) frame (length-tab _ 0 28 ∙ sym l)
+    (λ i h. let b : i < 28 = omega (arith, length-tab (λ (i : ℕ). getD frame i 0) 0 28) in getD-tab (λ (i : ℕ). getD frame i 0) 0 28 i b ∙ rw zero-add)
+
+pub write-end : (frame s₀ s : List ℕ) (k x : ℕ) → length frame ≡ 28 → 28 ≤ k → Filled (λ (i : ℕ). getD frame i 0) 28 s₀ s k → set s 20 x ≡ set frame 20 x ++ drop 28 s₀
+write-end frame s₀ s k x l h r =
+    ap (λ (m : List ℕ). set m 20 x) (fill-end (λ (i : ℕ). getD frame i 0) 28 s₀ s k h r ∙ ap (λ (m : List ℕ). m ++ drop 28 s₀) (copied frame l))
+    ∙ set-append-left frame (drop 28 s₀) 20 x (omega arith)
+
+-- ---- admit
+module _ (phys permissions : List ℕ) (phy : ℕ) (frame : List ℕ) (p : PhyNumber) (g : ZoneGroup) where
+  pub admit-bad : p .0 ≡ phy → BadDestination ≡ judge phys permissions phy frame (At p g)
+  unfolding judge
+  admit-bad e = rw (eq-eqb _ _ e)
+
+  module _ (n : p .0 ≡ phy → ⊥) (s : ℕ) (es : s ≡ openSource phys phy frame) (b : Bool) (eb : b ≡ P 16 permissions s (g .0)) where
+    pub admit-violation : not b ≡ true → ZoneViolation ≡ judge phys permissions phy frame (At p g)
+    unfolding judge
+    admit-violation h = rw (ne-eqb _ _ n, ← es, sym eb ∙ not-true b h)
+
+    pub admit-forward : not b ≡ false → Forward p ≡ judge phys permissions phy frame (At p g)
+    unfolding judge
+    admit-forward h = rw (ne-eqb _ _ n, ← es, sym eb ∙ not-false b h)
+
+pub sent-forward : (phys : List ℕ) (phy : ℕ) (frame buffer : List ℕ) (p : PhyNumber) (x : ℕ) (after : List ℕ) → x ≡ byte20 phys phy frame (p .0) → after ≡ set frame 20 x ++ drop 28 buffer
+    → after ≡ sent phys phy frame buffer (Forward p)
+unfolding sent
+sent-forward phys phy frame buffer p x after ex ea = rw (← ex) ea
+
+-- ---- open
+-- a judgement is no refusal
+answered : (a b : Bool) (p : PhyNumber) → openedAs (cond a BadDestination (cond b (Forward p) ZoneViolation)) ≡ answer (valuesOf (cond a BadDestination (cond b (Forward p) ZoneViolation)))
+answered true b p = refl
+answered false true p = refl
+answered false false p = refl
+
+judged : (phys permissions : List ℕ) (phy : ℕ) (frame : List ℕ) (f : Found) → openedAs (judge phys permissions phy frame f) ≡ answer (valuesOf (judge phys permissions phy frame f))
+unfolding judge
+judged phys permissions phy frame Nothing = refl
+judged phys permissions phy frame (At p g) = answered (eqb (p .0) phy) (P 16 permissions (openSource phys phy frame) (g .0)) p
+
+-- n is the number that the checks answered, f what the search gave
+module _ (phys routes permissions : List ℕ) (phy : ℕ) (frame buffer : List ℕ) (n : ℕ) (e : n ≡ firstRefusal (openChecks phys routes permissions phy frame (length buffer))) (z : n ≡ 0) where
+  module _ (f : Found) (ef : f ≡ search phys routes frame) where
+    pub open-none : f ≡ Nothing → out (openedAs NoDestination) (buffer ∷ []) ≡ openOut phys routes permissions phy frame buffer
+    unfolding judge sent
+    open-none h =
+        let s : search phys routes frame ≡ Nothing = sym ef ∙ h in
+        gives _ _ n _ _ _ _ e z (rw s) (rw s)
+
+    pub open-to : (p : PhyNumber) (g : ZoneGroup) (r : Opened) (after : List ℕ) → f ≡ At p g → r ≡ judge phys permissions phy frame (At p g) → after ≡ sent phys phy frame buffer r
+        → out (openedAs r) (after ∷ []) ≡ openOut phys routes permissions phy frame buffer
+    open-to p g r after h er ea =
+        let s : search phys routes frame ≡ At p g = sym ef ∙ h in
+        gives _ _ n _ _ _ _ e z (rw (er, s) (judged phys permissions phy frame (At p g))) (rw (ea, er, s))

@@ -1,0 +1,56 @@
+-- `opens::open` meets its contract.
+-- Assumes nothing.
+use mathlib.Core.Path.{sym, _∙_}
+use Rattle.tables.proofs.RefusalLaws.{clear}
+use Rattle.tables.proofs.OutcomeLaws.{refuses}
+use Rattle.opens.proofs.SearchLaws.{search-names}
+use Rattle.opens.proofs.OpenSteps.{open-none, open-to}
+use native.Mathlib.Omega.{arith}
+use borrow.Author.Needs.{needs}
+use Rattle.opens.proofs.open.Statement.{statement}
+use Rattle.opens.proofs.open.Tie as tie
+
+open-refusal-requires : tie.Need-open-refusal-requires
+open-refusal-requires c κs = search needs
+
+returns : tie.Need-returns
+returns c = search refuses
+
+search-requires : tie.Need-search-requires
+search-requires c κs = let k = clear _ _ (c .before .open-refusal .ensures) (c .if1 .left) tt in (omega arith, omega arith)
+
+enum-known-p : tie.Need-enum-known-p
+enum-known-p c = search needs
+
+enum-told : tie.Need-enum-told
+enum-told c = search needs
+
+returns-2 : tie.Need-returns-2
+returns-2 c = search open-none
+
+admit-requires : tie.Need-admit-requires
+admit-requires c κs =
+    let s = c .before .before .before .before in
+    let k = clear _ _ (s .before .before .open-refusal .ensures) (s .before .if1 .left) tt in
+    let n = search-names _ _ _ _ _ (sym (s .search .ensures) ∙ c .before .before .p .given .1) in
+    (omega arith, omega arith, omega arith, omega arith, n .0, n .2)
+
+same-length : tie.Need-same-length
+same-length c = search needs
+
+returns-3 : tie.Need-returns-3
+returns-3 c = search open-to
+
+pub open-spec : {M : Type 1} → statement M
+open-spec =
+    tie.close
+    (tie.spec
+    open-refusal-requires
+    returns
+    search-requires
+    enum-known-p
+    enum-told
+    returns-2
+    admit-requires
+    same-length
+    returns-3)

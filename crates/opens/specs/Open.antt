@@ -1,0 +1,88 @@
+-- "OPEN": "Byte 0 bits 3..0 type 1h; 4-11 destination; 12-19 source; byte 20 bit 7 ACCESS ZONE MANAGEMENT, bits 6..0 SOURCE ZONE GROUP".
+use mathlib.Core.Bool.{cond}
+use mathlib.Core.List.{List, [], _∷_, _++_}
+use Prim.Native.Nat.{ℕ, _+_, _*_, _/_, _%_}
+use lib.Dec.{eqb, ltb}
+use lib.ListN.{length, getD, set, drop}
+use Rattle.wire.specs.Bits.{num}
+use Rattle.wire.specs.Groups.{groupOf}
+use Rattle.permit.specs.Permission.{P}
+use Rattle.tables.specs.Refusals.{Check, refuse, below, atMost, differ, off, firstRefusal}
+use Rattle.tables.specs.Outcome.{Answer, refusal, answer, Out, outcome}
+use Rattle.tables.specs.Phys.{phyCount, physSize, phyGroup, phyPriority, participating, ready}
+use Rattle.tables.specs.Routes.{routesSize}
+use Rattle.opens.specs.declared.Found.{Found}
+use Rattle.opens.specs.declared.Found.the-variants.{At, Nothing}
+use Rattle.opens.specs.declared.Opened.{Opened}
+use Rattle.opens.specs.declared.Opened.the-variants.{Refused, NoDestination, BadDestination, ZoneViolation, Forward}
+use Rattle.opens.specs.Search.{search}
+
+-- the answer in document 01's numbers: an outcome's place in its list, and the phy to forward on
+abbrev pub valuesOf : Opened → List ℕ
+valuesOf (Refused n) = []
+valuesOf NoDestination = 1 ∷ []
+valuesOf BadDestination = 2 ∷ []
+valuesOf ZoneViolation = 3 ∷ []
+valuesOf (Forward p) = 4 ∷ p .0 ∷ []
+
+abbrev pub openedAs : Opened → Answer
+openedAs (Refused n) = refusal n
+openedAs NoDestination = answer (valuesOf NoDestination)
+openedAs BadDestination = answer (valuesOf BadDestination)
+openedAs ZoneViolation = answer (valuesOf ZoneViolation)
+openedAs (Forward p) = answer (valuesOf (Forward p))
+
+-- refusal 1: "a table the call uses has a size not named above"
+abbrev pub tableChecks : List ℕ → List ℕ → List ℕ → List Check
+tableChecks phys routes permissions =
+    physSize phys ++ routesSize routes ++ refuse 1 (differ (length permissions) 2048) ∷ []
+
+-- refusals 1, 2, 3, 7, 4, 5; `room` is the size of the frame buffer
+abbrev pub openChecks : List ℕ → List ℕ → List ℕ → ℕ → List ℕ → ℕ → List Check
+openChecks phys routes permissions phy frame room =
+    tableChecks phys routes permissions
+    ++ refuse 2 (atMost (phyCount phys) phy)
+    ∷ refuse 3 (below room 28)
+    ∷ refuse 7 (off (ready phys phy))
+    ∷ refuse 4 (differ (length frame) 28)
+    ∷ refuse 5 (differ (getD frame 0 0 % 16) 1)
+    ∷ []
+
+-- "The source group .. of anything arriving on a phy that is not participating, is the phy record's group. For the rest, on a participating
+-- phy, it is the group carried: in an OPEN the low 7 bits of byte 20"
+unfoldable pub openSource : List ℕ → ℕ → List ℕ → ℕ
+openSource phys phy frame = cond (participating phys phy) (groupOf (getD frame 20 0)) (phyGroup phys phy)
+
+-- "Outcomes in order": 1 and 2, 3, 4
+unfoldable pub judge : List ℕ → List ℕ → ℕ → List ℕ → Found → Opened
+judge phys permissions phy frame Nothing = NoDestination
+judge phys permissions phy frame (At p g) =
+    cond (eqb (p .0) phy) BadDestination
+    (cond (P 16 permissions (openSource phys phy frame) (g .0)) (Forward p) ZoneViolation)
+
+abbrev pub opened : List ℕ → List ℕ → List ℕ → ℕ → List ℕ → Opened
+opened phys routes permissions phy frame = judge phys permissions phy frame (search phys routes frame)
+
+-- "bit 7 is the carried bit (from a participating phy) or is one exactly if the arriving phy's priority is above 0 (otherwise)"
+abbrev pub manages : List ℕ → ℕ → List ℕ → ℕ
+manages phys phy frame = cond (participating phys phy) (getD frame 20 0 / 128) (num (ltb 0 (phyPriority phys phy)))
+
+-- "Towards a participating phy the low 7 bits are the source group, and bit 7 is .. Towards other phys byte 20 is zero."
+unfoldable pub byte20 : List ℕ → ℕ → List ℕ → ℕ → ℕ
+byte20 phys phy frame p = cond (participating phys p) (manages phys phy frame * 128 + openSource phys phy frame) 0
+
+-- "write 28 bytes: the frame with byte 20 changed"; "Outcomes 1 to 3 write no frame."
+unfoldable pub sent : List ℕ → ℕ → List ℕ → List ℕ → Opened → List ℕ
+sent phys phy frame buffer (Refused n) = buffer
+sent phys phy frame buffer NoDestination = buffer
+sent phys phy frame buffer BadDestination = buffer
+sent phys phy frame buffer ZoneViolation = buffer
+sent phys phy frame buffer (Forward p) = set frame 20 (byte20 phys phy frame (p .0)) ++ drop 28 buffer
+
+-- the buffers: the frame buffer
+abbrev pub openOut : List ℕ → List ℕ → List ℕ → ℕ → List ℕ → List ℕ → Out
+openOut phys routes permissions phy frame buffer =
+    outcome (firstRefusal (openChecks phys routes permissions phy frame (length buffer)))
+    (valuesOf (opened phys routes permissions phy frame))
+    (buffer ∷ [])
+    (sent phys phy frame buffer (opened phys routes permissions phy frame) ∷ [])

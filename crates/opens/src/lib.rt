@@ -1,0 +1,279 @@
+// OPEN frames: the gate through which a host reaches a disk.
+use tables::PHY_RECORD;
+use tables::ROUTE_RECORD;
+use wire::PhyNumber;
+use wire::ZoneGroup;
+ghost use mathlib.Core.Path.{_≡_};
+ghost use mathlib.Core.List.{[], _∷_, _++_};
+ghost use Prim.Native.Nat.{_*_, _<_, _≤_};
+ghost use lib.ListN.{length, set, drop};
+ghost use Rattle.tables.specs.Refusals.{firstRefusal};
+ghost use Rattle.tables.specs.Phys.{phyRecord, phyCount};
+ghost use Rattle.tables.specs.Routes.{routeCount};
+ghost use Rattle.tables.specs.Outcome.{out};
+ghost use Rattle.opens.specs.Search.{zeroBytes, usable, findPhy, findRoute, search};
+ghost use Rattle.opens.specs.declared.Found.the-variants.{At};
+ghost use Rattle.opens.specs.Open.{openedAs, tableChecks, openChecks, openSource, judge, byte20, sent, openOut};
+
+// What a search yields: the phy to go out on, and the destination's group.
+pub enum Found {
+    At(PhyNumber, ZoneGroup),
+    Nothing,
+}
+
+pub enum Opened {
+    Refused(u8),
+    NoDestination,
+    BadDestination,
+    ZoneViolation,
+    Forward(PhyNumber),
+}
+
+// Refusal 1.
+fn table_refusal(phys: &[u8], routes: &[u8], permissions: &[u8]) -> u8
+    ensures { λ r. ⌜ r ≡ firstRefusal (tableChecks (now (phys .entry)) (now (routes .entry)) (now (permissions .entry))) ⌝ }
+{
+    if phys.len() % PHY_RECORD != 0 {
+        return 1;
+    }
+    if phys.len() < PHY_RECORD {
+        return 1;
+    }
+    if 128 * PHY_RECORD < phys.len() {
+        return 1;
+    }
+    if routes.len() % ROUTE_RECORD != 0 {
+        return 1;
+    }
+    if 1024 * ROUTE_RECORD < routes.len() {
+        return 1;
+    }
+    if permissions.len() != 2048 {
+        return 1;
+    }
+    0
+}
+
+// The number of the refusal, or 0; `room` is the size of the frame buffer.
+fn open_refusal(
+    phys: &[u8],
+    routes: &[u8],
+    permissions: &[u8],
+    phy: PhyNumber,
+    frame: &[u8],
+    room: usize,
+) -> u8
+    ensures { λ r. ⌜ r ≡ firstRefusal (openChecks (now (phys .entry)) (now (routes .entry)) (now (permissions .entry)) (phy .0) (now (frame .entry)) room) ⌝ }
+{
+    let no = table_refusal(phys, routes, permissions);
+    if no != 0 {
+        return no;
+    }
+    if phys.len() / PHY_RECORD <= phy.0 as usize {
+        return 2;
+    }
+    if room < 28 {
+        return 3;
+    }
+    if !tables::is_ready(phys, phy) {
+        return 7;
+    }
+    if frame.len() != 28 {
+        return 4;
+    }
+    if frame[0] % 16 != 1 {
+        return 5;
+    }
+    0
+}
+
+// Whether the frame's destination is address zero, which matches nothing.
+fn zero_address(frame: &[u8]) -> bool
+    requires { ⌜ length (now frame) ≡ 28 ⌝ }
+    ensures { λ r. ⌜ r ≡ zeroBytes 8 (now (frame .entry)) 4 ⌝ }
+{
+    let mut k: usize = 8;
+    while 0 < k {
+        k -= 1;
+        if frame[4 + k] != 0 {
+            return false;
+        }
+    }
+    true
+}
+
+// The bytes are compared from the last to the first: addresses of one maker differ at the low end, so most records are left at the
+// first comparison. Whether the phy is ready is asked last, since few records come so far.
+fn search_phys(phys: &[u8], frame: &[u8]) -> Found
+    requires { ⌜ (length (now phys) ≤ 128 * phyRecord) × (length (now frame) ≡ 28) ⌝ }
+    ensures { λ r. ⌜ r ≡ findPhy (now (phys .entry)) (now (frame .entry)) 0 (phyCount (now (phys .entry))) ⌝ }
+{
+    let count = phys.len() / PHY_RECORD;
+    let mut i: usize = 0;
+    'search: loop {
+        if i == count {
+            break Found::Nothing;
+        }
+        let at = PHY_RECORD * i + 4;
+        let mut k: usize = 8;
+        'bytes: loop {
+            k -= 1;
+            if phys[at + k] != frame[4 + k] {
+                i += 1;
+                continue 'search;
+            }
+            if 0 < k {
+                continue 'bytes;
+            }
+            let p = PhyNumber(i as u8);
+            if !tables::is_ready(phys, p) {
+                i += 1;
+                continue 'search;
+            }
+            break 'search Found::At(p, tables::phy_group(phys, p));
+        }
+    }
+}
+
+// Whether a record of the route table can be followed: its phy exists and is ready.
+fn is_usable(phys: &[u8], p: PhyNumber) -> bool
+    ensures { λ r. ⌜ r ≡ usable (now (phys .entry)) (p .0) ⌝ }
+{
+    if (p.0 as usize) < phys.len() / PHY_RECORD {
+        return tables::is_ready(phys, p);
+    }
+    false
+}
+
+// Bytes first and from the last on, as in `search_phys`.
+fn search_routes(phys: &[u8], routes: &[u8], frame: &[u8]) -> Found
+    requires { ⌜ length (now frame) ≡ 28 ⌝ }
+    ensures { λ r. ⌜ r ≡ findRoute (now (phys .entry)) (now (routes .entry)) (now (frame .entry)) 0 (routeCount (now (routes .entry))) ⌝ }
+{
+    let count = routes.len() / ROUTE_RECORD;
+    let mut i: usize = 0;
+    'search: loop {
+        if i == count {
+            break Found::Nothing;
+        }
+        let at = ROUTE_RECORD * i;
+        let mut k: usize = 8;
+        'bytes: loop {
+            k -= 1;
+            if routes[at + k] != frame[4 + k] {
+                i += 1;
+                continue 'search;
+            }
+            if 0 < k {
+                continue 'bytes;
+            }
+            let p = tables::route_phy(routes, i);
+            if !is_usable(phys, p) {
+                i += 1;
+                continue 'search;
+            }
+            break 'search Found::At(p, tables::route_group(routes, i));
+        }
+    }
+}
+
+// Where the frame is to go: by the phy table, failing that by the route table.
+fn search(phys: &[u8], routes: &[u8], frame: &[u8]) -> Found
+    requires { ⌜ (length (now phys) ≤ 128 * phyRecord) × (length (now frame) ≡ 28) ⌝ }
+    ensures { λ r. ⌜ r ≡ search (now (phys .entry)) (now (routes .entry)) (now (frame .entry)) ⌝ }
+{
+    if zero_address(frame) {
+        return Found::Nothing;
+    }
+    let Found::At(p, g) = search_phys(phys, frame) else {
+        return search_routes(phys, routes, frame);
+    };
+    Found::At(p, g)
+}
+
+// The group for which the frame speaks.
+fn open_source(phys: &[u8], phy: PhyNumber, frame: &[u8]) -> ZoneGroup
+    requires { ⌜ (phy .0 < phyCount (now phys)) × (length (now frame) ≡ 28) ⌝ }
+    ensures { λ r. ⌜ r .0 ≡ openSource (now (phys .entry)) (phy .0) (now (frame .entry)) ⌝ }
+{
+    if !tables::is_participating(phys, phy) {
+        return tables::phy_group(phys, phy);
+    }
+    wire::group_of(frame[20])
+}
+
+// Byte 20 towards the phy `to`, for the source group that `open_source` gave.
+fn byte20(phys: &[u8], phy: PhyNumber, frame: &[u8], source: ZoneGroup, to: PhyNumber) -> u8
+    requires { ⌜ (phy .0 < phyCount (now phys)) × (length (now frame) ≡ 28) × (source .0 ≡ openSource (now phys) (phy .0) (now frame)) × (to .0 < phyCount (now phys)) ⌝ }
+    ensures { λ r. ⌜ r ≡ byte20 (now (phys .entry)) (phy .0) (now (frame .entry)) (to .0) ⌝ }
+{
+    if !tables::is_participating(phys, to) {
+        return 0;
+    }
+    if tables::is_participating(phys, phy) {
+        return frame[20] / 128 * 128 + source.0;
+    }
+    if 0 < tables::phy_priority(phys, phy) {
+        return 128 + source.0;
+    }
+    source.0
+}
+
+// The frame with another byte 20; what the buffer has beyond 28 bytes stays.
+fn write_frame(frame: &[u8], byte: u8, buffer: &mut [u8])
+    requires { ⌜ (length (now frame) ≡ 28) × (28 ≤ length (now buffer)) ⌝ }
+    ensures { λ _. ⌜ now (buffer .exit) ≡ set (now (frame .entry)) 20 byte ++ drop 28 (now (buffer .entry)) ⌝ }
+{
+    let mut k: usize = 0;
+    while k < 28 {
+        buffer[k] = frame[k];
+        k += 1;
+    }
+    buffer[20] = byte;
+}
+
+// What becomes of a frame for the phy p and the group g.
+fn admit(
+    phys: &[u8],
+    permissions: &[u8],
+    phy: PhyNumber,
+    frame: &[u8],
+    p: PhyNumber,
+    g: ZoneGroup,
+    buffer: &mut [u8],
+) -> Opened
+    requires { ⌜ (phy .0 < phyCount (now phys)) × (length (now permissions) ≡ 2048) × (length (now frame) ≡ 28) × (28 ≤ length (now buffer)) × (p .0 < phyCount (now phys)) × (g .0 < 128) ⌝ }
+    ensures { λ r. ⌜ (r ≡ judge (now (phys .entry)) (now (permissions .entry)) (phy .0) (now (frame .entry)) (At p g)) × (now (buffer .exit) ≡ sent (now (phys .entry)) (phy .0) (now (frame .entry)) (now (buffer .entry)) r) ⌝ }
+{
+    if p.0 == phy.0 {
+        return Opened::BadDestination;
+    }
+    let source = open_source(phys, phy, frame);
+    if !permit::permitted(permissions, source, g) {
+        return Opened::ZoneViolation;
+    }
+    let byte = byte20(phys, phy, frame, source, p);
+    write_frame(frame, byte, buffer);
+    Opened::Forward(p)
+}
+
+// An OPEN frame arrives on a phy.
+pub fn open(
+    phys: &[u8],
+    routes: &[u8],
+    permissions: &[u8],
+    phy: PhyNumber,
+    frame: &[u8],
+    buffer: &mut [u8],
+) -> Opened
+    ensures { λ r. ⌜ out (openedAs r) (now (buffer .exit) ∷ []) ≡ openOut (now (phys .entry)) (now (routes .entry)) (now (permissions .entry)) (phy .0) (now (frame .entry)) (now (buffer .entry)) ⌝ }
+{
+    let no = open_refusal(phys, routes, permissions, phy, frame, buffer.len());
+    if no != 0 {
+        return Opened::Refused(no);
+    }
+    let Found::At(p, g) = search(phys, routes, frame) else {
+        return Opened::NoDestination;
+    };
+    admit(phys, permissions, phy, frame, p, g, buffer)
+}

@@ -1,0 +1,2 @@
+pub mod PhyZone
+pub mod Inner

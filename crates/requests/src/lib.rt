@@ -1,0 +1,45 @@
+// What every SMP request and response has.
+use wire::PhyNumber;
+use wire::ZoneGroup;
+ghost use mathlib.Core.Path.{_≡_};
+ghost use mathlib.Core.List.{[], _∷_, _++_};
+ghost use Prim.Native.Nat.{_≤_, _<_};
+ghost use lib.ListN.{length, drop};
+ghost use Rattle.tables.specs.Phys.{phyCount};
+ghost use Rattle.requests.specs.Requests.{smpSource, right};
+
+// What a rule answers: the result, and how many bytes of the response it wrote.
+pub struct Ruled {
+    pub result: u8,
+    pub written: u16,
+}
+
+// The group that is speaking.
+fn smp_source(phys: &[u8], phy: PhyNumber, carried: u8) -> ZoneGroup
+    requires { ⌜ phy .0 < phyCount (now phys) ⌝ }
+    ensures { λ r. ⌜ (r .0 ≡ smpSource (now (phys .entry)) (phy .0) carried) × (r .0 < 128) ⌝ }
+{
+    if tables::is_participating(phys, phy) {
+        return wire::outside_group(carried);
+    }
+    tables::phy_group(phys, phy)
+}
+
+// Whether the caller may change zoning.
+pub fn has_right(phys: &[u8], permissions: &[u8], phy: PhyNumber, carried: u8) -> bool
+    requires { ⌜ (phy .0 < phyCount (now phys)) × (length (now permissions) ≡ 2048) ⌝ }
+    ensures { λ r. ⌜ r ≡ right (now (phys .entry)) (now (permissions .entry)) (phy .0) carried ⌝ }
+{
+    permit::permitted(permissions, smp_source(phys, phy, carried), ZoneGroup(2))
+}
+
+// The first four bytes of a response.
+pub fn write_head(response: &mut [u8], function: u8, result: u8, dwords: u8)
+    requires { ⌜ 4 ≤ length (now response) ⌝ }
+    ensures { λ _. ⌜ now (response .exit) ≡ (0x41 ∷ function ∷ result ∷ dwords ∷ []) ++ drop 4 (now (response .entry)) ⌝ }
+{
+    response[0] = 0x41;
+    response[1] = function;
+    response[2] = result;
+    response[3] = dwords;
+}

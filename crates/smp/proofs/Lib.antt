@@ -1,0 +1,2 @@
+pub mod SmpLaws
+pub mod Unique

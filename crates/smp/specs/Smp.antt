@@ -1,0 +1,81 @@
+-- "SMP": "After the refusals, the function byte picks one of three rules; any other byte answers 01h."
+use mathlib.Core.Bool.{Bool, cond, _&&_}
+use mathlib.Core.List.{List, [], _∷_, _++_}
+use Prim.Native.Nat.{ℕ, _+_, _/_}
+use lib.Dec.{eqb}
+use lib.ListN.{length, getD, drop}
+use Rattle.wire.specs.PhySet.{physIn}
+use Rattle.permit.specs.Orders.{Order}
+use Rattle.tables.specs.Refusals.{Check, refuse, below, atMost, differ, off, firstRefusal}
+use Rattle.tables.specs.Outcome.{Answer, refusal, answer, Out, outcome}
+use Rattle.tables.specs.Phys.{phyCount, physSize, ready}
+use Rattle.requests.specs.Requests.{Reply, turnedDown, responseOf}
+use Rattle.phy_zone.specs.PhyZone.{phyZoneReply}
+use Rattle.zone_permission.specs.ZonePermission.{permissionReply, ordersOf}
+use Rattle.zone_report.specs.ZoneReport.{reportReply}
+use Rattle.smp.specs.declared.Answered.{Answered}
+use Rattle.smp.specs.declared.Answered.the-variants.{Refused, Replied}
+
+-- the answer in document 01's numbers: result, response bytes, phys told
+abbrev pub answeredAs : Answered → Answer
+answeredAs (Refused n) = refusal n
+answeredAs (Replied result written told) = answer (result ∷ written ∷ told ∷ [])
+
+abbrev pub functionOf : List ℕ → ℕ
+functionOf request = getD request 1 0
+
+-- "the function byte picks one of three rules; any other byte answers 01h"
+unfoldable pub smpReply : List ℕ → List ℕ → ℕ → ℕ → List ℕ → Reply
+smpReply phys permissions phy carried request =
+    cond (eqb (functionOf request) 0x93) (phyZoneReply phys permissions phy carried request)
+    (cond (eqb (functionOf request) 0xc1) (permissionReply phys permissions phy carried request)
+    (cond (eqb (functionOf request) 0x51) (reportReply phys permissions phy carried request)
+    (turnedDown 0x01 phys permissions)))
+
+-- "a response whose length field would pass 255"
+unfoldable pub lengthField : List ℕ → List ℕ → ℕ → ℕ → List ℕ → ℕ
+lengthField phys permissions phy carried request = length ((smpReply phys permissions phy carried request) .rest) / 4
+
+-- refusals 1, 2, 3, 7, 4 ("SMP under 4"), 5 ("SMP byte 0 not 40h"), 8; `room` is the response buffer's size, `space` the phy set's
+abbrev pub smpChecks : List ℕ → List ℕ → ℕ → ℕ → List ℕ → ℕ → ℕ → List Check
+smpChecks phys permissions phy carried request room space =
+    physSize phys
+    ++ refuse 1 (differ (length permissions) 2048)
+    ∷ refuse 2 (atMost (phyCount phys) phy)
+    ∷ refuse 3 (below room 1020)
+    ∷ refuse 3 (below space 16)
+    ∷ refuse 7 (off (ready phys phy))
+    ∷ refuse 4 (below (length request) 4)
+    ∷ refuse 5 (differ (getD request 0 0) 0x40)
+    ∷ refuse 8 (below 255 (lengthField phys permissions phy carried request))
+    ∷ []
+
+-- what a reply leaves of the call: its values, and the buffers: phy table, permission table, response, phy set
+abbrev pub valuesOf : Reply → List ℕ
+valuesOf p = p .result ∷ (4 + length (p .rest)) ∷ physIn (p .set) ∷ []
+
+abbrev pub buffersOf : ℕ → Reply → List ℕ → List ℕ → List (List ℕ)
+buffersOf function p response set =
+    p .phys ∷ p .permissions ∷ (responseOf function p ++ drop (4 + length (p .rest)) response) ∷ (p .set ++ drop 16 set) ∷ []
+
+abbrev pub smpOut : List ℕ → List ℕ → ℕ → ℕ → List ℕ → List ℕ → List ℕ → Out
+smpOut phys permissions phy carried request response set =
+    outcome (firstRefusal (smpChecks phys permissions phy carried request (length response) (length set)))
+    (valuesOf (smpReply phys permissions phy carried request))
+    (phys ∷ permissions ∷ response ∷ set ∷ [])
+    (buffersOf (functionOf request) (smpReply phys permissions phy carried request) response set)
+
+-- the orders that a request's call accepted: none unless it was answered 00h with C1h
+unfoldable pub acceptedOrders : List ℕ → List ℕ → ℕ → ℕ → List ℕ → ℕ → ℕ → List Order
+acceptedOrders phys permissions phy carried request room space =
+    cond (eqb (firstRefusal (smpChecks phys permissions phy carried request room space)) 0
+    && (eqb (functionOf request) 0xc1 && eqb ((smpReply phys permissions phy carried request) .result) 0x00))
+    (ordersOf request)
+    []
+
+-- the permission table after the call
+unfoldable pub permissionsAfter : List ℕ → List ℕ → ℕ → ℕ → List ℕ → ℕ → ℕ → List ℕ
+permissionsAfter phys permissions phy carried request room space =
+    cond (eqb (firstRefusal (smpChecks phys permissions phy carried request room space)) 0)
+    ((smpReply phys permissions phy carried request) .permissions)
+    permissions

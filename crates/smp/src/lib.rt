@@ -1,0 +1,164 @@
+// SMP requests: the function byte picks one of three rules.
+use requests::Ruled;
+use wire::PhyNumber;
+ghost use mathlib.Core.Path.{_≡_};
+ghost use mathlib.Core.List.{[], _∷_, _++_};
+ghost use Prim.Native.Nat.{_≤_, _<_};
+ghost use lib.ListN.{length, drop};
+ghost use Rattle.tables.specs.Refusals.{firstRefusal};
+ghost use Rattle.tables.specs.Outcome.{out};
+ghost use Rattle.tables.specs.Phys.{phyCount, emptySet};
+ghost use Rattle.requests.specs.Requests.{Lent, Leaves};
+ghost use Rattle.smp.specs.Smp.{answeredAs, functionOf, smpReply, lengthField, smpChecks, smpOut};
+
+pub enum Answered {
+    Refused(u8),
+    // Result, response bytes, phys told.
+    Replied(u8, u16, u8),
+}
+
+// The length field that the response would have: only a report has one.
+fn length_field(phys: &[u8], permissions: &[u8], phy: PhyNumber, carried: u8, request: &[u8]) -> u16
+    requires { ⌜ (phy .0 < phyCount (now phys)) × (length (now permissions) ≡ 2048) × (4 ≤ length (now request)) ⌝ }
+    ensures { λ r. ⌜ r ≡ lengthField (now (phys .entry)) (now (permissions .entry)) (phy .0) carried (now (request .entry)) ⌝ }
+{
+    let function = request[1];
+    match function {
+        0x51 => zone_report::report_dwords(phys, permissions, phy, carried, request),
+        _ => 0,
+    }
+}
+
+pub fn smp_refusal(
+    phys: &[u8],
+    permissions: &[u8],
+    phy: PhyNumber,
+    carried: u8,
+    request: &[u8],
+    room: usize,
+    space: usize,
+) -> u8
+    ensures { λ r. ⌜ r ≡ firstRefusal (smpChecks (now (phys .entry)) (now (permissions .entry)) (phy .0) carried (now (request .entry)) room space) ⌝ }
+{
+    if phys.len() % tables::PHY_RECORD != 0 {
+        return 1;
+    }
+    if phys.len() < tables::PHY_RECORD {
+        return 1;
+    }
+    if 128 * tables::PHY_RECORD < phys.len() {
+        return 1;
+    }
+    if permissions.len() != 2048 {
+        return 1;
+    }
+    if phys.len() / tables::PHY_RECORD <= phy.0 as usize {
+        return 2;
+    }
+    if room < 1020 {
+        return 3;
+    }
+    if space < 16 {
+        return 3;
+    }
+    if !tables::is_ready(phys, phy) {
+        return 7;
+    }
+    if request.len() < 4 {
+        return 4;
+    }
+    if request[0] != 0x40 {
+        return 5;
+    }
+    if 255 < length_field(phys, permissions, phy, carried, request) {
+        return 8;
+    }
+    0
+}
+
+// Any other function byte.
+fn unknown_function(function: u8, response: &mut [u8], set: &mut [u8]) -> Ruled
+    requires { ⌜ (4 ≤ length (now response)) × (16 ≤ length (now set)) ⌝ }
+    ensures { λ r. ⌜ (r .result ≡ 1) × (r .written ≡ 4) × (now (response .exit) ≡ (0x41 ∷ function ∷ 1 ∷ 0 ∷ []) ++ drop 4 (now (response .entry))) × (now (set .exit) ≡ emptySet ++ drop 16 (now (set .entry))) ⌝ }
+{
+    requests::write_head(response, function, 0x01, 0);
+    tables::write_empty_set(set);
+    Ruled {
+        result: 0x01,
+        written: 4,
+    }
+}
+
+// One of three rules.
+fn rule(
+    phys: &mut [u8],
+    permissions: &mut [u8],
+    phy: PhyNumber,
+    carried: u8,
+    request: &[u8],
+    response: &mut [u8],
+    set: &mut [u8],
+) -> Ruled
+    requires { ⌜ Lent (now phys) (now permissions) (phy .0) (length (now request)) (length (now response)) (length (now set)) ⌝ }
+    ensures { λ r. ⌜ Leaves (functionOf (now (request .entry))) (smpReply (now (phys .entry)) (now (permissions .entry)) (phy .0) carried (now (request .entry))) (now (response .entry)) (now (set .entry)) (r .result) (r .written) (now (phys .exit)) (now (permissions .exit)) (now (response .exit)) (now (set .exit)) ⌝ }
+{
+    let function = request[1];
+    match function {
+        0x93 => phy_zone::configure_phy_zone(
+            phys,
+            permissions,
+            phy,
+            carried,
+            request,
+            response,
+            set,
+        ),
+        0xc1 => zone_permission::configure_zone_permission(
+            phys,
+            permissions,
+            phy,
+            carried,
+            request,
+            response,
+            set,
+        ),
+        0x51 => zone_report::report_zone_permission(
+            phys,
+            permissions,
+            phy,
+            carried,
+            request,
+            response,
+            set,
+        ),
+        _ => unknown_function(function, response, set),
+    }
+}
+
+// An SMP request arrives; `carried` is the byte that the caller took from the connection's OPEN.
+pub fn smp(
+    phys: &mut [u8],
+    permissions: &mut [u8],
+    phy: PhyNumber,
+    carried: u8,
+    request: &[u8],
+    response: &mut [u8],
+    set: &mut [u8],
+) -> Answered
+    ensures { λ r. ⌜ out (answeredAs r) (now (phys .exit) ∷ now (permissions .exit) ∷ now (response .exit) ∷ now (set .exit) ∷ []) ≡ smpOut (now (phys .entry)) (now (permissions .entry)) (phy .0) carried (now (request .entry)) (now (response .entry)) (now (set .entry)) ⌝ }
+{
+    let no = smp_refusal(
+        phys,
+        permissions,
+        phy,
+        carried,
+        request,
+        response.len(),
+        set.len(),
+    );
+    if no != 0 {
+        return Answered::Refused(no);
+    }
+    let ruled = rule(phys, permissions, phy, carried, request, response, set);
+    Answered::Replied(ruled.result, ruled.written, wire::phys_in(set))
+}

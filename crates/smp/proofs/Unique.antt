@@ -1,9 +1,7 @@
--- The contract leaves one answer and one content of each buffer.
+-- An answer is one in document 01's numbers.
 -- Assumes nothing.
-use mathlib.Core.Path.{_≡_, refl, sym, ap, _∙_}
-use mathlib.Core.List.{List, [], _∷_}
-use Prim.Native.Nat.{ℕ}
-use Rattle.tables.specs.Outcome.{Answer, Out, out}
+use mathlib.Core.Path.{_≡_}
+use Rattle.tables.specs.Outcome.{Answer}
 use Rattle.smp.specs.declared.Answered.{Answered}
 use Rattle.smp.specs.declared.Answered.the-variants.{Refused, Replied}
 use Rattle.smp.specs.Smp.{answeredAs}

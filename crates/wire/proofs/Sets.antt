@@ -114,7 +114,7 @@ tally-same f g i (suc n) h =
     ap₂ (λ (a b : ℕ). a + b) (ap num (h i (omega arith) (omega arith))) (tally-same f g (suc i) n (λ k l u. h k (omega arith) (omega arith)))
 
 -- sixteen bytes at the head of a buffer are the set
-member-front : (s rest : List ℕ) (i : ℕ) → length s ≡ 16 → i < 128 → member (s ++ rest) i ≡ member s i
+pub member-front : (s rest : List ℕ) (i : ℕ) → length s ≡ 16 → i < 128 → member (s ++ rest) i ≡ member s i
 unfolding member
 member-front s rest i l h =
     let k : i / 8 < length s = omega arith in

@@ -1,0 +1,47 @@
+-- Answers: a refused call leaves every lent buffer as it was; an SMP request turned down writes four response bytes and a zero set.
+-- Assumes nothing.
+use mathlib.Core.Path.{_≡_, refl, sym, ap, _∙_}
+use mathlib.Core.List.{List, [], _∷_, _++_}
+use Prim.Native.Nat.{ℕ, zero, suc, _+_}
+use native.Mathlib.Omega.{arith}
+use lib.ListN.{length, drop}
+use Rattle.tables.specs.Outcome.{Answer, refusal, answer, Out, out, outcome}
+use Rattle.tables.specs.Phys.{emptySet}
+use Rattle.requests.specs.Requests.{Reply, turnedDown}
+use Rattle.smp.specs.Smp.{functionOf, smpReply, valuesOf, buffersOf}
+use Rattle.smp.proofs.SmpLaws.{down}
+use Rattle.shelf.specs.Calls.{Call, startUp, leaving, identify, elect, opening, primitive, broadcastFrame, smp, outcomeOf, handedIn}
+use Rattle.shelf.specs.Promises.{Refusals, TurnedDown}
+
+-- an outcome that is a refusal has the buffers that were handed in
+keeps : (m : ℕ) (values : List ℕ) (old new : List (List ℕ)) (n : ℕ) (bs : List (List ℕ)) → outcome m values old new ≡ out (refusal n) bs → bs ≡ old
+unfolding outcome
+keeps zero values old new n bs e = let z : _≡_ {A = ℕ} 0 1 = cc in absurd (omega arith)
+keeps (suc m) values old new n bs e = cc
+
+pub refusals : Refusals
+unfolding outcomeOf handedIn
+refusals startUp t n bs e = keeps _ _ _ _ n bs e
+refusals (leaving phys phy) t n bs e = keeps _ _ _ _ n bs e
+refusals (identify phys phy address) t n bs e = keeps _ _ _ _ n bs e
+refusals (elect phys routes) t n bs e = keeps _ _ _ _ n bs e
+refusals (opening phys routes phy frame buffer) t n bs e = keeps _ _ _ _ n bs e
+refusals (primitive phys phy number set frame) t n bs e = keeps _ _ _ _ n bs e
+refusals (broadcastFrame phys phy arrived set frame) t n bs e = keeps _ _ _ _ n bs e
+refusals (smp phys phy carried request response set) t n bs e = keeps _ _ _ _ n bs e
+
+-- an outcome that is no refusal has the values and buffers that the call gives
+pub gave : (m : ℕ) (values : List ℕ) (old new : List (List ℕ)) (vs : List ℕ) (bs : List (List ℕ)) → outcome m values old new ≡ out (answer vs) bs
+    → (values ≡ vs) × (bs ≡ new)
+unfolding outcome
+gave zero values old new vs bs e = (cc, cc)
+gave (suc m) values old new vs bs e = let z : _≡_ {A = ℕ} 0 1 = cc in absurd (omega arith)
+
+pub turned-down : TurnedDown
+unfolding outcomeOf
+turned-down phys t phy carried request response set result written told bs e h =
+    let p = smpReply phys t phy carried request in
+    let g = gave _ (valuesOf p) _ _ _ bs e in
+    let r : p .result ≡ result = cc (g .0) in
+    let d : p ≡ turnedDown (p .result) phys t = down phys t phy carried request (λ z. h (sym r ∙ z)) in
+    g .1 ∙ ap (λ (q : Reply). buffersOf (functionOf request) q response set) (d ∙ ap (λ (k : ℕ). turnedDown k phys t) r)

@@ -1,0 +1,28 @@
+// Every public call of the zoning part, in one place. Each takes any bytes and any numbers, asks nothing of its caller, and answers:
+// a numbered refusal, which changes no lent byte, or the number 0 with its values. The promises about them are in specs/Promises.antt.
+
+// Start-up writes the permission table.
+pub use links::start_up;
+
+// A phy leaves the ready state; IDENTIFY arrives on one.
+pub use links::Linked;
+pub use links::identify;
+pub use links::leaving;
+
+// The elected supervisor.
+pub use election::Candidate;
+pub use election::Elected;
+pub use election::elect;
+
+// An OPEN frame arrives.
+pub use opens::Opened;
+pub use opens::open;
+
+// A broadcast arrives, as a primitive or as a frame.
+pub use broadcasts::Told;
+pub use broadcasts::broadcast_frame;
+pub use broadcasts::primitive;
+
+// An SMP request arrives.
+pub use smp::Answered;
+pub use smp::smp;

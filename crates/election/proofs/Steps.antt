@@ -13,6 +13,10 @@ use Rattle.tables.specs.Outcome.{answer}
 use Rattle.election.specs.declared.Candidate.{Candidate}
 use Rattle.election.specs.Election.{fit, candidate, phyCandidate, phyCandidates, routeCandidate, routeCandidates, beats, better, best, nobody}
 
+-- the better of b and the candidate of priority p and address a, as the functions are handed it
+abbrev pub betterOf : Candidate → ℕ → ℕ → Candidate
+betterOf b p a = better (record { priority = p; address = a }) b
+
 -- ---- `better`
 module _ (b : Candidate) (p a : ℕ) where
   pub above : b .priority < p → record { priority = p; address = a } ≡ better (record { priority = p; address = a }) b

@@ -59,6 +59,22 @@ fn better(b: Candidate, priority: u8, address: u64) -> Candidate
     b
 }
 
+// The best candidate so far, lent: it becomes the better of itself and a candidate.
+fn update(best: &mut Candidate, priority: u8, address: u64)
+    ensures { λ _. ⌜ now (best .exit) ≡ better (record { priority = priority; address = address }) (now (best .entry)) ⌝ }
+{
+    *best = better(*best, priority, address);
+}
+
+// The same with plain parameters, so that what stands above it needs no walk by hand.
+fn step(b: Candidate, priority: u8, address: u64) -> Candidate
+    ensures { λ r. ⌜ r ≡ better (record { priority = priority; address = address }) b ⌝ }
+{
+    let mut best = b;
+    update(&mut best, priority, address);
+    best
+}
+
 // The one step of both loops: the best of b and a record whose priority is above 0.
 fn consider(b: Candidate, priority: u8, address: u64) -> Candidate
     requires { ⌜ 0 < priority ⌝ }
@@ -67,7 +83,7 @@ fn consider(b: Candidate, priority: u8, address: u64) -> Candidate
     if address == 0 {
         return b;
     }
-    better(b, priority, address)
+    step(b, priority, address)
 }
 
 // The best of b and a phy. Most phys have priority 0: their address is not read.

@@ -8,11 +8,11 @@ use Rattle.election.proofs.consider.Tie as tie
 returns : tie.Need-returns
 returns c = search no-address
 
-better-requires : tie.Need-better-requires
-better-requires c κs = search needs
+step-requires : tie.Need-step-requires
+step-requires c κs = search needs
 
 returns-2 : tie.Need-returns-2
 returns-2 c = search stands
 
 pub consider-spec : {M : Type 1} → statement M
-consider-spec = tie.close (tie.spec returns better-requires returns-2)
+consider-spec = tie.close (tie.spec returns step-requires returns-2)

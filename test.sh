@@ -1,14 +1,41 @@
 #!/usr/bin/env bash
-# The test command: proves every crate from nothing, tries the must-fail edits, runs the programs, and then every test of the repository.
-# The last line is rt ci's own count.
+# The test command: proves every crate from nothing, tries the must-fail edits, runs the programs, and then the repository's own tests
+# against a second program. The last line is rt ci's own count.
 set -euo pipefail
 cd "$(dirname "$0")"
 log=$(mktemp)
 trap 'rm -f "$log"' EXIT
+calls=${CALLS:-300000}
 
-began=$SECONDS
+step() { printf '== %s (%s s)\n' "$1" "$SECONDS"; }
+
+command -v cargo >/dev/null || { apt-get update && apt-get install -y --no-install-recommends cargo; } >/dev/null
+
+step 'layout'
 rt fmt --check
-rt ci 2>&1 | tee "$log"
-echo "rt ci: $((SECONDS - began)) s"
 
+step 'proofs, must-fail edits and programs'
+rt ci 2>&1 | tee "$log"
+bench="second/bench.sh target/bin/bench"
+
+step 'the archive for C'
+rt staticlib shelf_c >/dev/null
+second/driver/build.sh target/staticlib/libshelf_c.a target/driver
+second/driver/build.sh target/staticlib/libshelf_c.a target/case examples/case.c
+second/driver/run.sh target/case | diff - examples/case.txt
+
+step 'the second program by itself'
+cargo test --offline --quiet --manifest-path second/Cargo.toml
+cargo build --offline --quiet --release --manifest-path second/Cargo.toml
+
+step "the library against the second program, $calls calls"
+second/target/release/differ 'second/driver/run.sh target/driver' "$calls"
+
+step 'the bench program against the second program'
+second/target/release/streams "$bench"
+
+step 'errors planted in the second program are found'
+second/planted.sh "$PWD/second/driver/run.sh $PWD/target/driver"
+
+step 'done'
 tail -n 1 "$log"

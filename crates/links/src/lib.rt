@@ -95,7 +95,7 @@ pub fn leaving(phys: &mut [u8], phy: PhyNumber) -> Linked
 }
 
 // The refusals of IDENTIFY, in document 01's order.
-fn identify_refusal(phys: &[u8], phy: PhyNumber, address: &[u8; 8]) -> u8
+pub fn identify_refusal(phys: &[u8], phy: PhyNumber, address: &[u8; 8]) -> u8
     ensures { λ r. ⌜ r ≡ firstRefusal (identifyChecks (now (phys .entry)) (phy .0) (now (address .entry))) ⌝ }
 {
     if phys.len() % PHY_RECORD != 0 {

@@ -54,6 +54,11 @@ first none = refl
 first (here {t = t} h) = rw (holding t h)
 first (next {t = t} h r) = rw (failing t h) (first r)
 
+-- a row whose test fails is passed over
+pub skipped : (n : ℕ) (t : Test) (cs : List Check) → Fails t → firstRefusal (refuse n t ∷ cs) ≡ firstRefusal cs
+unfolding firstRefusal
+skipped n t cs h = rw (failing t h)
+
 -- a callee's result x is v, and x, or its negation, was tested
 pub agrees : {x v w : Bool} → x ≡ v → x ≡ w → v ≡ w
 agrees e h = sym e ∙ h

@@ -1,0 +1,14 @@
+-- `shelf_c::or_else` meets its contract.
+-- Assumes nothing.
+use Rattle.shelf_c.proofs.Crossing.{else-same, else-own}
+use Rattle.shelf_c.proofs.or_else.Statement.{statement}
+use Rattle.shelf_c.proofs.or_else.Tie as tie
+
+returns : tie.Need-returns
+returns c = search else-same
+
+returns-2 : tie.Need-returns-2
+returns-2 c = search else-own
+
+pub or-else-spec : {M : Type 1} → statement M
+or-else-spec = tie.close (tie.spec returns returns-2)

@@ -1,0 +1,55 @@
+-- `shelf_c::shelf_identify` meets its contract.
+-- Assumes nothing.
+use Rattle.shelf_c.proofs.CLaws.{identify-short, identify-whole}
+use borrow.Author.Needs.{needs}
+use Rattle.shelf_c.proofs.shelf_identify.Statement.{statement}
+use Rattle.shelf_c.proofs.shelf_identify.Tie as tie
+
+phy-of-requires : tie.Need-phy-of-requires
+phy-of-requires c κs = search needs
+
+early-refusal-requires : tie.Need-early-refusal-requires
+early-refusal-requires c κs = search needs
+
+or-else-requires : tie.Need-or-else-requires
+or-else-requires c κs = search needs
+
+linked-c-requires : tie.Need-linked-c-requires
+linked-c-requires c κs = search needs
+
+same-length : tie.Need-same-length
+same-length c = search needs
+
+returns : tie.Need-returns
+returns c = search identify-short
+
+eight-requires : tie.Need-eight-requires
+eight-requires c κs = search needs
+
+identify-requires : tie.Need-identify-requires
+identify-requires c κs = search needs
+
+linked-c-requires-2 : tie.Need-linked-c-requires-2
+linked-c-requires-2 c κs = search needs
+
+same-length-2 : tie.Need-same-length-2
+same-length-2 c = search needs
+
+returns-2 : tie.Need-returns-2
+returns-2 c = search identify-whole
+
+pub shelf-identify-spec : {M : Type 1} → statement M
+shelf-identify-spec =
+    tie.close
+    (tie.spec
+    phy-of-requires
+    early-refusal-requires
+    or-else-requires
+    linked-c-requires
+    same-length
+    returns
+    eight-requires
+    identify-requires
+    linked-c-requires-2
+    same-length-2
+    returns-2)

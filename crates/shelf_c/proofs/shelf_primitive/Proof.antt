@@ -1,0 +1,39 @@
+-- `shelf_c::shelf_primitive` meets its contract.
+-- Assumes nothing.
+use Rattle.shelf_c.proofs.CLaws.{primitive-c}
+use borrow.Author.Needs.{needs}
+use Rattle.shelf_c.proofs.shelf_primitive.Statement.{statement}
+use Rattle.shelf_c.proofs.shelf_primitive.Tie as tie
+
+phy-of-requires : tie.Need-phy-of-requires
+phy-of-requires c κs = search needs
+
+byte-of-requires : tie.Need-byte-of-requires
+byte-of-requires c κs = search needs
+
+primitive-requires : tie.Need-primitive-requires
+primitive-requires c κs = search needs
+
+told-c-requires : tie.Need-told-c-requires
+told-c-requires c κs = search needs
+
+same-length : tie.Need-same-length
+same-length c = search needs
+
+same-length-2 : tie.Need-same-length-2
+same-length-2 c = search needs
+
+returns : tie.Need-returns
+returns c = search primitive-c
+
+pub shelf-primitive-spec : {M : Type 1} → statement M
+shelf-primitive-spec =
+    tie.close
+    (tie.spec
+    phy-of-requires
+    byte-of-requires
+    primitive-requires
+    told-c-requires
+    same-length
+    same-length-2
+    returns)

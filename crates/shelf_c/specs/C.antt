@@ -1,0 +1,100 @@
+-- What C gets. Document 01's outcomes in the fields of include/shelf.h; the quotes are of that header.
+use mathlib.Core.List.{List, [], _∷_, _++_}
+use Prim.Native.Nat.{ℕ, zero, suc}
+use lib.ListN.{length, getD}
+use Rattle.wire.specs.Address.{addressAt}
+use Rattle.tables.specs.Refusals.{Check, refuse, below, atMost, same, differ, off, on, firstRefusal}
+use Rattle.tables.specs.Outcome.{Answer, refusal, answer, Out, out, outcome}
+use Rattle.tables.specs.Phys.{phyCount, physSize, ready}
+use Rattle.links.specs.Links.{identified}
+use Rattle.smp.specs.Smp.{functionOf, smpReply, lengthField, valuesOf, buffersOf}
+use Rattle.shelf_c.specs.declared.ShelfElected.{ShelfElected}
+use Rattle.shelf_c.specs.declared.ShelfOpened.{ShelfOpened}
+use Rattle.shelf_c.specs.declared.ShelfTold.{ShelfTold}
+use Rattle.shelf_c.specs.declared.ShelfAnswered.{ShelfAnswered}
+
+-- what a call gives: its answer's fields in the header's order, and every buffer that was lent to be written, in the order of the parameters
+pub data Given : Type 0 where
+  given : List ℕ → List (List ℕ) → Given
+
+abbrev pub electedFields : ShelfElected → List ℕ
+electedFields r = r .refusal ∷ r .priority ∷ r .address ∷ []
+
+abbrev pub openedFields : ShelfOpened → List ℕ
+openedFields r = r .refusal ∷ r .outcome ∷ r .phy ∷ []
+
+abbrev pub toldFields : ShelfTold → List ℕ
+toldFields r = r .refusal ∷ r .count ∷ []
+
+abbrev pub answeredFields : ShelfAnswered → List ℕ
+answeredFields r = r .refusal ∷ r .result ∷ r .length ∷ r .count ∷ []
+
+-- the first k values, and 0 in the place of one that is not there: "the phy to forward on, where outcome is SHELF_FORWARD; else 0"
+abbrev pub padded : ℕ → List ℕ → List ℕ
+padded zero vs = []
+padded (suc k) [] = 0 ∷ padded k []
+padded (suc k) (v ∷ vs) = v ∷ padded k vs
+
+-- "refusal 0 where the call was answered, else the numbered refusal of the scope document (1 to 8)"; where it is refused "the other fields
+-- of its answer are 0": there are k others
+abbrev pub fields : ℕ → Answer → List ℕ
+fields k (refusal n) = n ∷ padded k []
+fields k (answer vs) = 0 ∷ padded k vs
+
+-- an outcome of document 01, as C gets it
+abbrev pub inC : ℕ → Out → Given
+inC k (out a bs) = given (fields k a) bs
+
+-- the refusal, and where it is 0 another number
+unfoldable pub orElse : ℕ → ℕ → ℕ
+orElse zero own = own
+orElse (suc n) own = suc n
+
+-- IDENTIFY "Refusals: 1, 2, 7 (already ready), 4 (address_len is not 8), 5 (address zero)": the first three are document 01's,
+-- which has no other length
+abbrev pub identifyFront : List ℕ → ℕ → List Check
+identifyFront phys phy =
+    physSize phys
+    ++ refuse 2 (atMost (phyCount phys) phy)
+    ∷ refuse 7 (on (ready phys phy))
+    ∷ []
+
+abbrev pub identifyChecksC : List ℕ → ℕ → List ℕ → List Check
+identifyChecksC phys phy address =
+    identifyFront phys phy
+    ++ refuse 4 (differ (length address) 8)
+    ∷ refuse 5 (same (addressAt address 0) 0)
+    ∷ []
+
+abbrev pub identifyOutC : List ℕ → ℕ → List ℕ → Out
+identifyOutC phys phy address =
+    outcome (firstRefusal (identifyChecksC phys phy address)) [] (phys ∷ []) (identified phys phy address ∷ [])
+
+-- SMP "Refusals: 1, 2, 3 (response_len under 1,020 or set_len under 16), 7, 4, 5, 8": document 01's up to 5
+abbrev pub smpFront : List ℕ → List ℕ → ℕ → List ℕ → ℕ → ℕ → List Check
+smpFront phys permissions phy request room space =
+    physSize phys
+    ++ refuse 1 (differ (length permissions) 2048)
+    ∷ refuse 2 (atMost (phyCount phys) phy)
+    ∷ refuse 3 (below room 1020)
+    ∷ refuse 3 (below space 16)
+    ∷ refuse 7 (off (ready phys phy))
+    ∷ refuse 4 (below (length request) 4)
+    ∷ refuse 5 (differ (getD request 0 0) 0x40)
+    ∷ []
+
+-- "carried 256 or more is no byte: refused as 5, after the other causes of 5"
+abbrev pub smpChecksC : List ℕ → List ℕ → ℕ → ℕ → List ℕ → ℕ → ℕ → List Check
+smpChecksC phys permissions phy carried request room space =
+    smpFront phys permissions phy request room space
+    ++ refuse 5 (below 255 carried)
+    ∷ refuse 8 (below 255 (lengthField phys permissions phy carried request))
+    ∷ []
+
+-- the buffers: phy table, permission table, response, phy set
+abbrev pub smpOutC : List ℕ → List ℕ → ℕ → ℕ → List ℕ → List ℕ → List ℕ → Out
+smpOutC phys permissions phy carried request response set =
+    outcome (firstRefusal (smpChecksC phys permissions phy carried request (length response) (length set)))
+    (valuesOf (smpReply phys permissions phy carried request))
+    (phys ∷ permissions ∷ response ∷ set ∷ [])
+    (buffersOf (functionOf request) (smpReply phys permissions phy carried request) response set)

@@ -1,0 +1,93 @@
+/* The zoning part of a SAS expander, for C.
+ *
+ * Every call takes numbers and pointer-length pairs, answers for all bytes, and has no precondition on their contents.
+ * A pointer must be readable (or, where it is not const, readable and writable) for its length in bytes and must not be
+ * null, also where the length is 0. No two buffers of one call may overlap where one of the two is written.
+ *
+ * refusal   0 where the call was answered, else the numbered refusal of the scope document (1 to 8). A refused call writes
+ *           no byte of any buffer, and the other fields of its answer are 0.
+ *
+ * A number that C could narrow silently is taken as 32 bits and never truncated:
+ *   phy      256 or more is refused as any number that is not below the number of phys: 2
+ *   number   256 or more is refused as any primitive number over 7: 5
+ *   carried  256 or more is no byte: refused as 5, after the other causes of 5
+ *
+ * Sizes: phys 1 to 128 records of 12 bytes; routes 0 to 1,024 records of 12 bytes; permissions 2,048 bytes. */
+#ifndef SHELF_H
+#define SHELF_H
+
+#include <stddef.h>
+#include <stdint.h>
+
+#ifdef __cplusplus
+extern "C" {
+#endif
+
+/* shelf_open's outcome */
+enum { SHELF_NO_DESTINATION = 1, SHELF_BAD_DESTINATION = 2, SHELF_ZONE_VIOLATION = 3, SHELF_FORWARD = 4 };
+
+struct shelf_elected {
+    uint32_t refusal;
+    uint32_t priority; /* 0 where there is no candidate */
+    uint64_t address;  /* 0 where there is no candidate */
+};
+
+struct shelf_opened {
+    uint32_t refusal;
+    uint32_t outcome; /* 1 to 4 */
+    uint32_t phy;     /* the phy to forward on, where outcome is SHELF_FORWARD; else 0 */
+};
+
+struct shelf_told {
+    uint32_t refusal;
+    uint32_t count; /* how many phys the set holds */
+};
+
+struct shelf_answered {
+    uint32_t refusal;
+    uint32_t result; /* the response's byte 2 */
+    uint32_t length; /* how many bytes of the response were written */
+    uint32_t count;  /* how many phys the set holds */
+};
+
+/* Start-up. Refusals: 1. Writes all of permissions. */
+uint32_t shelf_start_up(uint8_t *permissions, size_t permissions_len);
+
+/* A phy leaves the ready state. Refusals: 1, 2, 7. Writes byte 2 of the phy's record. */
+uint32_t shelf_leaving(uint8_t *phys, size_t phys_len, uint32_t phy);
+
+/* IDENTIFY arrives: address is the attached SAS address, 8 bytes, big-endian. Refusals: 1, 2, 7 (already ready), 4 (address_len
+ * is not 8), 5 (address zero). Writes bytes 2 and 4 to 11 of the phy's record and, where another address was known, bytes 0 and 1. */
+uint32_t shelf_identify(uint8_t *phys, size_t phys_len, uint32_t phy, const uint8_t *address, size_t address_len);
+
+/* The elected supervisor. Refusals: 1. Writes nothing. */
+struct shelf_elected shelf_elect(const uint8_t *phys, size_t phys_len, const uint8_t *routes, size_t routes_len);
+
+/* An OPEN frame arrives. Refusals: 1, 2, 3 (out_len under 28), 7, 4, 5. Writes the first 28 bytes of out, and only where the
+ * outcome is SHELF_FORWARD. */
+struct shelf_opened shelf_open(const uint8_t *phys, size_t phys_len, const uint8_t *routes, size_t routes_len,
+                               const uint8_t *permissions, size_t permissions_len, uint32_t phy, const uint8_t *frame,
+                               size_t frame_len, uint8_t *out, size_t out_len);
+
+/* A broadcast primitive arrives. Refusals: 1, 2, 3 (set_len under 16 or out_len under 28), 7, 5. Writes the first 16 bytes of
+ * set and the first 28 of out, the frame for participating phys. */
+struct shelf_told shelf_primitive(const uint8_t *phys, size_t phys_len, const uint8_t *permissions, size_t permissions_len,
+                                  uint32_t phy, uint32_t number, uint8_t *set, size_t set_len, uint8_t *out, size_t out_len);
+
+/* A broadcast frame arrives. Refusals: 1, 2, 3 (set_len under 16 or out_len under 28), 7, 4, 5, 6. Writes as shelf_primitive. */
+struct shelf_told shelf_broadcast_frame(const uint8_t *phys, size_t phys_len, const uint8_t *permissions,
+                                        size_t permissions_len, uint32_t phy, const uint8_t *frame, size_t frame_len,
+                                        uint8_t *set, size_t set_len, uint8_t *out, size_t out_len);
+
+/* An SMP request arrives; carried is the byte that the caller took from the connection's OPEN. Refusals: 1, 2, 3 (response_len
+ * under 1,020 or set_len under 16), 7, 4, 5, 8. Writes the first length bytes of response and the first 16 of set; where result
+ * is 0 and the function is 93h also bytes 0 and 1 of the records named, and where it is C1h also permissions. */
+struct shelf_answered shelf_smp(uint8_t *phys, size_t phys_len, uint8_t *permissions, size_t permissions_len, uint32_t phy,
+                                uint32_t carried, const uint8_t *request, size_t request_len, uint8_t *response,
+                                size_t response_len, uint8_t *set, size_t set_len);
+
+#ifdef __cplusplus
+}
+#endif
+
+#endif

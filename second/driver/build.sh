@@ -1,0 +1,34 @@
+#!/bin/sh
+# Builds a C program over shelf.h for the library's machine, x86-64, whichever machine this is.
+#
+# build.sh ARCHIVE PROGRAM [SOURCE]    SOURCE is driver.c where it is not named
+set -eu
+here=$(cd "$(dirname "$0")" && pwd)
+archive=$1
+program=$2
+source=${3:-$here/driver.c}
+
+install() {
+    for package; do
+        dpkg -s "$package" >/dev/null 2>&1 && continue
+        log=$(mktemp)
+        { apt-get update && apt-get install -y --no-install-recommends "$package"; } >"$log" 2>&1 || {
+            cat "$log" >&2
+            exit 1
+        }
+        rm -f "$log"
+    done
+}
+
+case $(uname -m) in
+x86_64)
+    command -v gcc >/dev/null || install gcc libc6-dev
+    compiler=gcc
+    ;;
+*)
+    install gcc-x86-64-linux-gnu libc6-dev-amd64-cross
+    compiler=x86_64-linux-gnu-gcc
+    ;;
+esac
+# Static, so that another machine needs no x86-64 libraries to run it.
+"$compiler" -std=c11 -O2 -Wall -Wextra -static -I "$here/../../include" "$source" "$archive" -o "$program"

@@ -1,0 +1,71 @@
+#!/bin/sh
+# Times the library beside the model on this machine.
+#
+# native.sh [ROOT]    ROOT is the repository, where it is not the folder above this one
+#
+# The library is for x86-64. On another machine this script compiles the very same bitcode for that machine instead: rt
+# runs from a shadow of the kit, all links but for clang, which is a wrapper that keeps a copy of the bitcode it is given.
+# That is for measuring only; nothing proves or ships the result.
+set -eu
+here=$(cd "$(dirname "$0")" && pwd)
+root=$(cd "${1:-$here/..}" && pwd)
+machine=$(uname -m)
+
+# Fills folder $2 with links to everything in folder $1 but the entry $3, which becomes a folder of its own.
+shadow() {
+    mkdir -p "$2"
+    for entry in "$1"/* "$1"/.[!.]*; do
+        [ -e "$entry" ] || continue
+        [ "$(basename "$entry")" = "$3" ] || ln -s "$entry" "$2/"
+    done
+    mkdir "$2/$3"
+}
+
+keep_bitcode() {
+    kit=$(dirname "$(dirname "$(readlink -f "$(command -v rt)")")")
+    clang=on/$machine/toolchain/bin/clang
+    shadow "$kit" "$work/kit" on
+    shadow "$kit/on" "$work/kit/on" "$machine"
+    shadow "$kit/on/$machine" "$work/kit/on/$machine" toolchain
+    shadow "$kit/on/$machine/toolchain" "$work/kit/on/$machine/toolchain" bin
+    shadow "$kit/on/$machine/toolchain/bin" "$work/kit/on/$machine/toolchain/bin" clang
+    rmdir "$work/kit/$clang"
+    # rt clears the environment, so all paths are written out.
+    cat >"$work/kit/$clang" <<WRAPPER
+#!/bin/sh
+for argument; do case \$argument in *.bc) /bin/cp "\$argument" "$work/kept/\$\$.bc" ;; esac; done
+exec "$kit/$clang" "\$@"
+WRAPPER
+    chmod +x "$work/kit/$clang"
+    mkdir "$work/kept"
+    chmod 777 "$work" "$work/kept"
+    (cd "$root" && RATTLE_HOME=$work/kit rt staticlib shelf_c >"$work/log" 2>&1) || { cat "$work/log" >&2; exit 1; }
+}
+
+compile_for_this_machine() {
+    rm -rf "$lib"
+    mkdir -p "$lib"
+    for bitcode in "$work"/kept/*.bc; do
+        [ -e "$bitcode" ] || { echo "native.sh: rt handed clang no bitcode" >&2; exit 1; }
+        object=$work/$(basename "$bitcode" .bc).o
+        # clang warns that the bitcode was made for x86-64.
+        "$kit/$clang" --target="$machine-unknown-linux-gnu" -O3 -fPIC -c -x ir "$bitcode" -o "$object" 2>"$work/log" || {
+            cat "$work/log" >&2
+            exit 1
+        }
+    done
+    "$kit/on/$machine/toolchain/bin/llvm-ar" rcs "$lib/libshelf_c.a" "$work"/*.o
+}
+
+if [ "$machine" = x86_64 ]; then
+    (cd "$root" && rt staticlib shelf_c >/dev/null)
+    lib=$root/target/staticlib
+else
+    work=$(mktemp -d)
+    trap 'rm -rf "$work"' EXIT
+    lib=$here/target/native
+    keep_bitcode
+    compile_for_this_machine
+fi
+SHELF_LIB=$lib cargo build --quiet --release --offline --features native --bin timing --manifest-path "$here/Cargo.toml"
+"$here/target/release/timing"

@@ -1,0 +1,222 @@
+//! The differential test: the library, called through the driver, against the model.
+//!
+//! differ DRIVER-COMMAND [CALLS] [SEED]
+//!
+//! Exits with 0 where the two agreed on every field and every byte, and every class of answers was reached.
+
+use second::trial::call::{Answer, Call, FIELDS, SEND_ON};
+use second::trial::coverage::Coverage;
+use second::trial::generate::Generator;
+use std::io::{BufReader, Read, Write};
+use std::process::{Child, ChildStdin, Command, ExitCode, Stdio};
+use std::sync::mpsc::{sync_channel, Receiver, SyncSender};
+use std::thread;
+use std::time::Instant;
+
+const DEFAULT_CALLS: u64 = 300_000;
+const DEFAULT_SEED: u64 = 6_201;
+
+/// Calls that travel together, and how many such batches may be on the way.
+const BATCH: u64 = 200;
+const BATCHES: usize = 8;
+
+struct Arguments {
+    command: String,
+    calls: u64,
+    seed: u64,
+}
+
+fn arguments() -> Option<Arguments> {
+    let mut arguments = std::env::args().skip(1);
+    let command = arguments.next()?;
+    let calls = arguments.next().map_or(Some(DEFAULT_CALLS), |text| text.parse().ok())?;
+    let seed = arguments.next().map_or(Some(DEFAULT_SEED), |text| text.parse().ok())?;
+    Some(Arguments { command, calls, seed })
+}
+
+fn main() -> ExitCode {
+    let Some(arguments) = arguments() else {
+        eprintln!("differ DRIVER-COMMAND [CALLS] [SEED]");
+        return ExitCode::from(2);
+    };
+    println!("seed {}, {} calls", arguments.seed, arguments.calls);
+    match run(&arguments) {
+        Ok(coverage) => judge(&coverage),
+        Err(disagreement) => {
+            println!("{disagreement}");
+            println!("again with: differ '{}' {} {}", arguments.command, arguments.calls, arguments.seed);
+            ExitCode::FAILURE
+        }
+    }
+}
+
+fn judge(coverage: &Coverage) -> ExitCode {
+    print!("{coverage}");
+    let missing = coverage.missing();
+    for class in &missing {
+        println!("never reached: {class}");
+    }
+    if missing.is_empty() {
+        println!("agreed on every field and every byte");
+        ExitCode::SUCCESS
+    } else {
+        ExitCode::FAILURE
+    }
+}
+
+fn run(arguments: &Arguments) -> Result<Coverage, String> {
+    let began = Instant::now();
+    let mut driver = start(&arguments.command)?;
+    let stdin = driver.stdin.take().expect("it is piped");
+    let stdout = driver.stdout.take().expect("it is piped");
+    let (sender, receiver) = sync_channel(BATCHES);
+    let (calls, seed) = (arguments.calls, arguments.seed);
+    let feeder = thread::spawn(move || feed(stdin, &sender, calls, seed));
+    let result = compare_all(&arguments.command, BufReader::with_capacity(1 << 18, stdout), &receiver);
+    // Without its receiver the feeder stops, and without the feeder the driver does.
+    drop(receiver);
+    feeder.join().map_err(|_| "the feeder broke down".to_string())?;
+    let coverage = result.inspect_err(|_| drop(driver.kill()))?;
+    let status = driver.wait().map_err(|error| error.to_string())?;
+    if !status.success() {
+        return Err(format!("the driver ended with {status}"));
+    }
+    let seconds = began.elapsed().as_secs_f64();
+    println!("{seconds:.1} s, {:.0} calls a second", arguments.calls as f64 / seconds);
+    Ok(coverage)
+}
+
+fn start(command: &str) -> Result<Child, String> {
+    Command::new("sh")
+        .arg("-c")
+        .arg(format!("exec {command}"))
+        .stdin(Stdio::piped())
+        .stdout(Stdio::piped())
+        .spawn()
+        .map_err(|error| format!("{command}: {error}"))
+}
+
+/// A batch of calls, each with the model's answer.
+type Batch = Vec<(Call, Answer)>;
+
+/// Makes up calls, asks the model, and passes the calls on to the driver.
+fn feed(mut driver: ChildStdin, sender: &SyncSender<Batch>, calls: u64, seed: u64) {
+    let mut generator = Generator::new(seed);
+    let mut left = calls;
+    let mut bytes = Vec::new();
+    while left > 0 {
+        let batch = batch(&mut generator, left.min(BATCH));
+        left -= batch.len() as u64;
+        bytes.clear();
+        batch.iter().for_each(|(call, _)| call.send(&mut bytes));
+        bytes.push(SEND_ON);
+        // The answers must be awaited before the calls go out, or both pipes may fill up. Where the other side is gone,
+        // compare_all says why.
+        if sender.send(batch).is_err() || driver.write_all(&bytes).is_err() {
+            return;
+        }
+    }
+}
+
+fn batch(generator: &mut Generator, size: u64) -> Batch {
+    let one = |_| {
+        let call = generator.call();
+        let answer = call.model();
+        generator.keep(&call, &answer);
+        (call, answer)
+    };
+    (0..size).map(one).collect()
+}
+
+fn compare_all(command: &str, mut answers: impl Read, receiver: &Receiver<Batch>) -> Result<Coverage, String> {
+    let mut coverage = Coverage::default();
+    let mut number = 0u64;
+    for batch in receiver {
+        for (place, (call, model)) in batch.iter().enumerate() {
+            number += 1;
+            compare(&mut answers, call, model).map_err(|disagreement| match disagreement {
+                Disagreement::NoAnswer => format!("call {number}: {}", who_ends_the_driver(command, &batch[place..])),
+                Disagreement::Told(why) => format!("call {number}: {why}"),
+            })?;
+            coverage.count(call, model);
+        }
+    }
+    let mut rest = Vec::new();
+    answers.read_to_end(&mut rest).map_err(|error| error.to_string())?;
+    if rest.is_empty() {
+        Ok(coverage)
+    } else {
+        Err(format!("{} bytes after the last answer", rest.len()))
+    }
+}
+
+enum Disagreement {
+    NoAnswer,
+    Told(String),
+}
+
+/// The driver ended before it sent on its answers: each call that is left is made again in a driver of its own.
+fn who_ends_the_driver(command: &str, batch: &[(Call, Answer)]) -> String {
+    let alone = |call: &Call, model: &Answer| {
+        let mut driver = start(command).ok()?;
+        let mut bytes = Vec::new();
+        call.send(&mut bytes);
+        // The pipe is closed at the end of this line. What is not written is not answered either.
+        driver.stdin.take()?.write_all(&bytes).ok()?;
+        let said = compare(&mut driver.stdout.take()?, call, model);
+        driver.wait().ok()?;
+        Some(matches!(said, Err(Disagreement::NoAnswer)))
+    };
+    match batch.iter().position(|(call, model)| alone(call, model).unwrap_or(true)) {
+        Some(after) => format!("the driver ends at the call {after} after this one\n{}", told(&batch[after].0)),
+        None => "the driver ended here or soon after, but not where each call is made alone".to_string(),
+    }
+}
+
+fn compare(answers: &mut impl Read, call: &Call, model: &Answer) -> Result<(), Disagreement> {
+    let mut head = [0; 2 + 8 * FIELDS];
+    answers.read_exact(&mut head).map_err(|_| Disagreement::NoAnswer)?;
+    let mut library = Answer { fields: fields(&head), buffers: model.buffers.clone() };
+    for buffer in &mut library.buffers {
+        answers.read_exact(buffer).map_err(|_| Disagreement::NoAnswer)?;
+    }
+    let why = if head[0] != call.parts().place {
+        format!("answered as call {} of the header\n{}", head[0], told(call))
+    } else if head[1] != 0 {
+        format!("a byte beside the buffers or in a const one was written\n{}", told(call))
+    } else if library != *model {
+        format!("the two disagree\n{}{}", told(call), difference(model, &library))
+    } else {
+        return Ok(());
+    };
+    Err(Disagreement::Told(why))
+}
+
+fn fields(head: &[u8]) -> [u64; FIELDS] {
+    let words = head[2..].as_chunks().0;
+    std::array::from_fn(|i| u64::from_le_bytes(words[i]))
+}
+
+/// The whole call, to make it again.
+fn told(call: &Call) -> String {
+    let parts = call.parts();
+    let mut text = format!("shelf_{}\n", parts.name);
+    for (name, number) in parts.numbers {
+        text += &format!("  {name} = {number}\n");
+    }
+    for (name, bytes) in parts.buffers {
+        let hex: String = bytes.iter().map(|byte| format!("{byte:02x}")).collect();
+        text += &format!("  {name}, {} bytes: {hex}\n", bytes.len());
+    }
+    text
+}
+
+fn difference(model: &Answer, library: &Answer) -> String {
+    let mut text = format!("  fields: model {:x?}, library {:x?}\n", model.fields, library.fields);
+    for (which, (left, right)) in model.buffers.iter().zip(&library.buffers).enumerate() {
+        for (at, (left, right)) in left.iter().zip(right).enumerate().filter(|(_, (left, right))| left != right) {
+            text += &format!("  written buffer {which}, byte {at}: model {left:02x}, library {right:02x}\n");
+        }
+    }
+    text
+}

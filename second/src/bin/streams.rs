@@ -1,0 +1,205 @@
+//! The bench program's text against the model's, on many streams of events.
+//!
+//! streams BENCH-COMMAND [STREAMS] [SEED]
+//!
+//! The fixed streams (document 01's cases, all their beginnings, and edges) come first, then so many random ones. Exits
+//! with 0 where all texts were equal and every kind of line was printed.
+
+use second::bench::{self, Event};
+use second::trial::events::{damage, stream};
+use second::trial::random::Random;
+use std::collections::BTreeMap;
+use std::io::{Read, Write};
+use std::process::{Command, ExitCode, Stdio};
+use std::thread;
+
+const DEFAULT_STREAMS: usize = 200;
+const DEFAULT_SEED: u64 = 6_201;
+
+/// Every kind of line. The bench lends tables and buffers of the right sizes, so 1 and 3 never occur, nor does 8.
+const LINES: [&str; 19] = [
+    "S 00", "S 01", "S 02", "S 03", "S 10", "S 11", "O ND", "O BD", "O ZV", "O FWD", "B", "L", "X 2", "X 4", "X 5",
+    "X 6", "X 7", "K", "T",
+];
+
+struct Trial {
+    name: String,
+    stream: Vec<u8>,
+}
+
+fn main() -> ExitCode {
+    let mut arguments = std::env::args().skip(1);
+    let (command, rest) = (arguments.next(), arguments.map(|text| text.parse::<u64>()));
+    let (Some(command), Ok(numbers)) = (command, rest.collect::<Result<Vec<_>, _>>()) else {
+        eprintln!("streams BENCH-COMMAND [STREAMS] [SEED]");
+        return ExitCode::from(2);
+    };
+    let count = numbers.first().map_or(DEFAULT_STREAMS, |&count| count as usize);
+    let seed = numbers.get(1).copied().unwrap_or(DEFAULT_SEED);
+    println!("seed {seed}, {count} random streams");
+    match compare_all(&command, fixed().into_iter().chain(random(seed, count))) {
+        Ok(lines) => judge(&lines),
+        Err(disagreement) => {
+            println!("{disagreement}");
+            ExitCode::FAILURE
+        }
+    }
+}
+
+fn judge(lines: &BTreeMap<String, u64>) -> ExitCode {
+    for (class, count) in lines {
+        println!("{class:8} {count:9}");
+    }
+    let missing: Vec<_> = LINES.iter().filter(|class| !lines.contains_key(**class)).collect();
+    if missing.is_empty() {
+        println!("all texts are equal");
+        ExitCode::SUCCESS
+    } else {
+        println!("never printed: {missing:?}");
+        ExitCode::FAILURE
+    }
+}
+
+fn compare_all(command: &str, trials: impl Iterator<Item = Trial>) -> Result<BTreeMap<String, u64>, String> {
+    let mut lines = BTreeMap::new();
+    let (mut streams, mut bytes) = (0, 0);
+    for trial in trials {
+        let model = bench::text(&trial.stream);
+        let printed = run(command, &trial.stream).map_err(|why| format!("{}: {why}", trial.name))?;
+        if printed != model.as_bytes() {
+            return Err(difference(&trial, &model, &String::from_utf8_lossy(&printed)));
+        }
+        model.lines().skip(1).for_each(|line| *lines.entry(class(line)).or_default() += 1);
+        streams += 1;
+        bytes += trial.stream.len();
+    }
+    println!("{streams} streams, {bytes} bytes");
+    Ok(lines)
+}
+
+/// A line without its numbers, but with a result or refusal.
+fn class(line: &str) -> String {
+    let words: Vec<_> = line.split(' ').skip(1).collect();
+    let telling = match words[0] {
+        "S" | "O" | "X" => 2,
+        _ => 1,
+    };
+    words[..telling].join(" ")
+}
+
+fn run(command: &str, stream: &[u8]) -> Result<Vec<u8>, String> {
+    let mut child = Command::new("sh")
+        .arg("-c")
+        .arg(format!("exec {command}"))
+        .stdin(Stdio::piped())
+        .stdout(Stdio::piped())
+        .spawn()
+        .map_err(|error| error.to_string())?;
+    let mut stdin = child.stdin.take().expect("it is piped");
+    let mut stdout = child.stdout.take().expect("it is piped");
+    let mut text = Vec::new();
+    thread::scope(|scope| {
+        // A program that stops reading early shows in its text.
+        scope.spawn(move || drop(stdin.write_all(stream)));
+        stdout.read_to_end(&mut text)
+    })
+    .map_err(|error| error.to_string())?;
+    let status = child.wait().map_err(|error| error.to_string())?;
+    if status.success() {
+        Ok(text)
+    } else {
+        Err(format!("the bench program ended with {status}"))
+    }
+}
+
+fn difference(trial: &Trial, model: &str, printed: &str) -> String {
+    let [left, right] = [model, printed].map(|text| text.split_inclusive('\n').collect::<Vec<_>>());
+    let at = (0..left.len().max(right.len())).find(|&at| left.get(at) != right.get(at)).unwrap_or(0);
+    let (left, right) = (left.get(at), right.get(at));
+    let hex: String = trial.stream.iter().map(|byte| format!("{byte:02x}")).collect();
+    format!(
+        "{}: the two disagree in line {}\nmodel   {left:?}\nprogram {right:?}\nthe stream: {hex}",
+        trial.name,
+        at + 1
+    )
+}
+
+fn event(kind: u8, phy: u8, payload: &[u8]) -> Vec<u8> {
+    Event { kind, phy, carried: 0, payload }.bytes()
+}
+
+fn open_to(phy: u8) -> [u8; 28] {
+    let mut frame = [0; 28];
+    frame[0] = 0x01;
+    frame[4] = 0x50;
+    frame[11] = 0x10 + phy;
+    frame
+}
+
+const SINGLE: [u8; 12] = [0x40, 0xc1, 0, 2, 0, 0, 0x08, 0x89, 0, 0x81, 0, 0];
+
+fn cases_1_to_5() -> Vec<u8> {
+    [event(1, 0, &SINGLE), event(2, 2, &open_to(4)), event(2, 2, &open_to(1)), event(3, 2, &[0]), event(1, 2, &SINGLE)]
+        .concat()
+}
+
+/// Requests of cases 6 to 12, each from phy 0 of a fresh rack; what follows shows what became of the tables.
+fn cases_6_to_12() -> Vec<(&'static str, Vec<u8>)> {
+    let batch = |start, rows: &[u128]| {
+        let head = vec![0x40, 0xc1, 0, 2 + 4 * rows.len() as u8, 0, 0, 0, 0, 0, 0x91, start, rows.len() as u8];
+        let rows = rows.iter().flat_map(|row| row.to_be_bytes());
+        head.into_iter().chain(rows).collect::<Vec<u8>>()
+    };
+    vec![
+        ("case 6", vec![0x40, 0x93, 0, 2, 0, 0, 7, 1, 0, 9, 0, 0]),
+        ("case 6, k 0", vec![0x40, 0x93, 0, 1, 0, 0, 8, 0]),
+        ("case 7", vec![0x40, 0x93, 0, 2, 0, 0, 8, 1, 0, 9, 0, 0]),
+        ("case 8", batch(127, &[1 << 8])),
+        ("case 9", batch(128, &[1 << 8])),
+        ("case 10", batch(8, &[1 << 9, 0])),
+        ("case 11", vec![0x40, 0x51, 0, 1, 0, 0, 127, 5]),
+        ("case 12", vec![0x40, 0xc1, 0, 2, 0, 0, 1, 0x88, 0, 0x80, 0, 0]),
+    ]
+}
+
+fn aftermath() -> Vec<u8> {
+    let opens = (0..8).flat_map(|from| (0..8).map(move |to| event(2, from, &open_to(to))));
+    let primitives = (0..8).map(|phy| event(3, phy, &[phy]));
+    opens.chain(primitives).flatten().collect()
+}
+
+fn fixed() -> Vec<Trial> {
+    let trial = |name: &str, stream| Trial { name: name.to_string(), stream };
+    let cases = cases_1_to_5();
+    let mut trials = vec![trial("the empty stream", Vec::new()), trial("the untouched rack", aftermath())];
+    trials.extend((1..=cases.len()).map(|cut| trial(&format!("cases 1 to 5, {cut} bytes"), cases[..cut].to_vec())));
+    for (name, request) in cases_6_to_12() {
+        trials.push(trial(name, [event(1, 0, &request), aftermath()].concat()));
+    }
+    for kind in [0, 3, 5, 6, 7, 255] {
+        let lengths = [0, 1, 2, 7, 8, 9].map(|length| event(kind, 1, &vec![1; length]));
+        trials.push(trial(&format!("kind {kind} of several lengths"), [lengths.concat(), aftermath()].concat()));
+        trials.push(trial(&format!("kind {kind}, cut off"), [&[kind, 1, 0, 0xff, 0xff][..], &[0; 65_534]].concat()));
+        trials.push(trial(&format!("kind {kind}, longest"), event(kind, 1, &[0; 65_535])));
+    }
+    trials
+}
+
+fn random(seed: u64, count: usize) -> impl Iterator<Item = Trial> {
+    let mut random = Random::new(seed);
+    (0..count).map(move |number| {
+        let events = match random.below(20) {
+            0 => random.between(8_000, 12_000),
+            1..=4 => random.between(1, 20),
+            _ => random.between(100, 1_500),
+        };
+        let mut stream = stream(&mut random, events);
+        let kind = random.pick(&["valid", "valid", "damaged", "cut"]);
+        match kind {
+            "damaged" => damage(&mut random, &mut stream),
+            "cut" => stream.truncate(random.below(stream.len() + 1)),
+            _ => {}
+        }
+        Trial { name: format!("seed {seed}, random stream {number}, {kind}"), stream }
+    })
+}

@@ -1,0 +1,453 @@
+//! The library's time beside the model's: one process, the same inputs in the same buffers, one run.
+//!
+//! Both are called in alternating rounds; a time is the median of all rounds' times for one call. Before a case is timed,
+//! both must give the same answer and leave the same bytes behind.
+
+use second::trial::random::Random;
+use std::hint::black_box;
+use std::time::Instant;
+
+const ROUNDS: usize = 301;
+const SAMPLE_NS: u128 = 20_000;
+
+/// Everything that a call may be lent.
+#[derive(Clone, Debug, PartialEq)]
+struct Lent {
+    phys: Vec<u8>,
+    routes: Vec<u8>,
+    permissions: Vec<u8>,
+    message: Vec<u8>,
+    response: Vec<u8>,
+    set: Vec<u8>,
+    out: Vec<u8>,
+}
+
+impl Lent {
+    /// As `other`, in the same place as before.
+    fn become_again(&mut self, other: &Lent) {
+        self.phys.copy_from_slice(&other.phys);
+        self.routes.copy_from_slice(&other.routes);
+        self.permissions.copy_from_slice(&other.permissions);
+        self.message.copy_from_slice(&other.message);
+        self.response.copy_from_slice(&other.response);
+        self.set.copy_from_slice(&other.set);
+        self.out.copy_from_slice(&other.out);
+    }
+}
+
+/// One call, or one for each phy; answers its fields.
+type Act = fn(&mut Lent) -> [u64; 4];
+
+/// The same call of both programs.
+#[derive(Clone, Copy)]
+struct Pair {
+    rattle: Act,
+    rust: Act,
+}
+
+/// The calls of include/shelf.h, with slices in place of pointers and lengths.
+mod library {
+    use second::{Answered, Elected, Opened, Told};
+
+    mod c {
+        #[repr(C)]
+        pub struct Elected {
+            pub refusal: u32,
+            pub priority: u32,
+            pub address: u64,
+        }
+        #[repr(C)]
+        pub struct Opened {
+            pub refusal: u32,
+            pub outcome: u32,
+            pub phy: u32,
+        }
+        #[repr(C)]
+        pub struct Told {
+            pub refusal: u32,
+            pub count: u32,
+        }
+        #[repr(C)]
+        pub struct Answered {
+            pub refusal: u32,
+            pub result: u32,
+            pub length: u32,
+            pub count: u32,
+        }
+        type In = *const u8;
+        type Out = *mut u8;
+        extern "C" {
+            pub fn shelf_start_up(permissions: Out, n: usize) -> u32;
+            pub fn shelf_leaving(phys: Out, n: usize, phy: u32) -> u32;
+            pub fn shelf_identify(phys: Out, n: usize, phy: u32, address: In, m: usize) -> u32;
+            pub fn shelf_elect(phys: In, n: usize, routes: In, m: usize) -> Elected;
+            pub fn shelf_open(
+                phys: In,
+                n: usize,
+                routes: In,
+                m: usize,
+                permissions: In,
+                k: usize,
+                phy: u32,
+                frame: In,
+                l: usize,
+                out: Out,
+                o: usize,
+            ) -> Opened;
+            pub fn shelf_primitive(
+                phys: In,
+                n: usize,
+                permissions: In,
+                m: usize,
+                phy: u32,
+                number: u32,
+                set: Out,
+                s: usize,
+                out: Out,
+                o: usize,
+            ) -> Told;
+            pub fn shelf_smp(
+                phys: Out,
+                n: usize,
+                permissions: Out,
+                m: usize,
+                phy: u32,
+                carried: u32,
+                request: In,
+                q: usize,
+                response: Out,
+                r: usize,
+                set: Out,
+                s: usize,
+            ) -> Answered;
+        }
+    }
+
+    // A slice's pointer is never null and good for its length, and `&mut` keeps written buffers apart from all others:
+    // that is all the header asks.
+
+    pub fn start_up(permissions: &mut [u8]) -> u32 {
+        unsafe { c::shelf_start_up(permissions.as_mut_ptr(), permissions.len()) }
+    }
+
+    pub fn leaving(phys: &mut [u8], phy: u32) -> u32 {
+        unsafe { c::shelf_leaving(phys.as_mut_ptr(), phys.len(), phy) }
+    }
+
+    pub fn identify(phys: &mut [u8], phy: u32, address: &[u8]) -> u32 {
+        unsafe { c::shelf_identify(phys.as_mut_ptr(), phys.len(), phy, address.as_ptr(), address.len()) }
+    }
+
+    pub fn elect(phys: &[u8], routes: &[u8]) -> Elected {
+        let c::Elected { refusal, priority, address } =
+            unsafe { c::shelf_elect(phys.as_ptr(), phys.len(), routes.as_ptr(), routes.len()) };
+        Elected { refusal, priority, address }
+    }
+
+    pub fn open(phys: &[u8], routes: &[u8], permissions: &[u8], phy: u32, frame: &[u8], out: &mut [u8]) -> Opened {
+        let c::Opened { refusal, outcome, phy } = unsafe {
+            c::shelf_open(
+                phys.as_ptr(),
+                phys.len(),
+                routes.as_ptr(),
+                routes.len(),
+                permissions.as_ptr(),
+                permissions.len(),
+                phy,
+                frame.as_ptr(),
+                frame.len(),
+                out.as_mut_ptr(),
+                out.len(),
+            )
+        };
+        Opened { refusal, outcome, phy }
+    }
+
+    pub fn primitive(phys: &[u8], permissions: &[u8], phy: u32, number: u32, set: &mut [u8], out: &mut [u8]) -> Told {
+        let c::Told { refusal, count } = unsafe {
+            c::shelf_primitive(
+                phys.as_ptr(),
+                phys.len(),
+                permissions.as_ptr(),
+                permissions.len(),
+                phy,
+                number,
+                set.as_mut_ptr(),
+                set.len(),
+                out.as_mut_ptr(),
+                out.len(),
+            )
+        };
+        Told { refusal, count }
+    }
+
+    pub fn smp(
+        phys: &mut [u8],
+        permissions: &mut [u8],
+        phy: u32,
+        carried: u32,
+        request: &[u8],
+        response: &mut [u8],
+        set: &mut [u8],
+    ) -> Answered {
+        let c::Answered { refusal, result, length, count } = unsafe {
+            c::shelf_smp(
+                phys.as_mut_ptr(),
+                phys.len(),
+                permissions.as_mut_ptr(),
+                permissions.len(),
+                phy,
+                carried,
+                request.as_ptr(),
+                request.len(),
+                response.as_mut_ptr(),
+                response.len(),
+                set.as_mut_ptr(),
+                set.len(),
+            )
+        };
+        Answered { refusal, result, length, count }
+    }
+}
+
+/// The same act over the library and over the model.
+macro_rules! pair {
+    ($lent:ident, $call:ident, $act:expr) => {
+        Pair {
+            rattle: |$lent| {
+                use library::$call;
+                $act
+            },
+            rust: |$lent| {
+                use second::$call;
+                $act
+            },
+        }
+    };
+}
+
+/// The arriving phy of all calls but identify and leaving: the first one, in group 1.
+const ARRIVING: u32 = 0;
+
+const START_UP: Pair = pair!(lent, start_up, [start_up(&mut lent.permissions).into(), 0, 0, 0]);
+
+const ELECT: Pair = pair!(lent, elect, {
+    let elected = elect(&lent.phys, &lent.routes);
+    [elected.refusal.into(), elected.priority.into(), elected.address, 0]
+});
+
+const OPEN: Pair = pair!(lent, open, {
+    let opened = open(&lent.phys, &lent.routes, &lent.permissions, ARRIVING, &lent.message, &mut lent.out);
+    [opened.refusal.into(), opened.outcome.into(), opened.phy.into(), 0]
+});
+
+const PRIMITIVE: Pair = pair!(lent, primitive, {
+    let told = primitive(&lent.phys, &lent.permissions, ARRIVING, 0, &mut lent.set, &mut lent.out);
+    [told.refusal.into(), told.count.into(), 0, 0]
+});
+
+const SMP: Pair = pair!(lent, smp, {
+    let Lent { phys, permissions, message, response, set, .. } = lent;
+    let answer = smp(phys, permissions, ARRIVING, 0, message, response, set);
+    [answer.refusal, answer.result, answer.length, answer.count].map(u64::from)
+});
+
+/// One leaving for each phy.
+const LEAVING: Pair = pair!(lent, leaving, {
+    let phys = 0..lent.phys.len() as u32 / 12;
+    [phys.map(|phy| u64::from(leaving(&mut lent.phys, phy))).sum(), 0, 0, 0]
+});
+
+/// One IDENTIFY with the same, other address for each phy.
+const IDENTIFY: Pair = pair!(lent, identify, {
+    let phys = 0..lent.phys.len() as u32 / 12;
+    [phys.map(|phy| u64::from(identify(&mut lent.phys, phy, &lent.message))).sum(), 0, 0, 0]
+});
+
+/// The addresses of one maker differ in their last bytes only.
+fn address(number: usize) -> [u8; 8] {
+    (0x5000_c500_1234_0000 + number as u64).to_be_bytes()
+}
+
+const NOWHERE: usize = 0xffff;
+
+/// A shelf of this size. All phys are ready, and phy 0 is in group 1, which reaches all groups.
+fn shelf(phys: usize, routes: usize) -> Lent {
+    let mut permissions = vec![0; 2048];
+    second::start_up(&mut permissions);
+    let phy = |i: usize| [&[i as u8 % 16, 1 + (i % 100) as u8, 0b11, 0][..], &address(i)].concat();
+    let route = |i: usize| [&address(128 + i)[..], &[(i % phys) as u8, (i % 128) as u8, i as u8 % 16, 0]].concat();
+    Lent {
+        phys: (0..phys).flat_map(phy).collect(),
+        routes: (0..routes).flat_map(route).collect(),
+        permissions,
+        message: Vec::new(),
+        response: vec![0; 1020],
+        set: vec![0; 16],
+        out: vec![0; 28],
+    }
+}
+
+/// With a route to the phy with the highest number as the last one.
+fn open_to(mut lent: Lent, destination: usize) -> Lent {
+    let last_phy = (lent.phys.len() / 12 - 1) as u8;
+    if let Some(last) = lent.routes.as_chunks_mut::<12>().0.last_mut() {
+        last[8] = last_phy;
+    }
+    lent.message = vec![0x01; 28];
+    lent.message[4..12].copy_from_slice(&address(destination));
+    lent
+}
+
+/// Half of the phys, in no order that a processor could guess, are in a group that is not reached.
+fn half_told(mut lent: Lent) -> Lent {
+    let mut random = Random::new(1);
+    lent.permissions[16..32].fill(0);
+    lent.permissions[31] = 0b110;
+    for record in lent.phys.as_chunks_mut::<12>().0.iter_mut().skip(1) {
+        record[1] = if random.percent(50) { 1 } else { 3 };
+    }
+    lent
+}
+
+fn single(mut lent: Lent) -> Lent {
+    lent.message = vec![0x40, 0xc1, 0, 2, 0, 0, 0x08, 0x89, 0, 0x81, 0, 0];
+    lent
+}
+
+/// A batch up to row 127.
+fn batch(mut lent: Lent, k: usize) -> Lent {
+    lent.message = vec![0x40, 0xc1, 0, 2 + 4 * k as u8, 0, 0, 0, 0, 0, 0x91, (128 - k) as u8, k as u8];
+    lent.message.extend(Random::new(2).bytes(16 * k));
+    lent
+}
+
+/// Descriptors that leave phy 0 in group 1, so that the next call has the right again.
+fn configure_phys(mut lent: Lent, k: usize) -> Lent {
+    lent.message = vec![0x40, 0x93, 0, (1 + k.div_ceil(2)) as u8, 0, 0, 0, k as u8];
+    lent.message.extend((0..k).flat_map(|i| [i as u8 % 16, 1 + (i % 100) as u8]));
+    lent.message.resize(8 + 4 * k.div_ceil(2), 0);
+    lent
+}
+
+fn report(mut lent: Lent, rows: usize) -> Lent {
+    lent.message = vec![0x40, 0x51, 0, 1, 0, 0, 0, rows as u8];
+    lent
+}
+
+fn other_address(mut lent: Lent) -> Lent {
+    lent.phys.as_chunks_mut::<12>().0.iter_mut().for_each(|record| record[2] = 0b10);
+    lent.message = address(NOWHERE).to_vec();
+    lent
+}
+
+/// Which of an act's runs may follow one another without new buffers.
+#[derive(Clone, Copy, PartialEq)]
+enum Runs {
+    Many,
+    /// The act is as many calls as there are phys, and changes what the next one would find.
+    OneForEachPhy,
+}
+
+fn main() {
+    println!("median ns for one call, {ROUNDS} rounds{:26}Rattle     Rust    ratio", "");
+    let full = || shelf(128, 1024);
+    case("OPEN, 128 phys, 1,024 routes, the last fits", OPEN, open_to(full(), 128 + 1023), Runs::Many);
+    case("OPEN, 128 phys, 1,024 routes, none fits", OPEN, open_to(full(), NOWHERE), Runs::Many);
+    case("primitive, 128 phys, all told", PRIMITIVE, full(), Runs::Many);
+    case("primitive, 128 phys, half told", PRIMITIVE, half_told(full()), Runs::Many);
+    case("C1h single", SMP, single(full()), Runs::Many);
+    case("C1h batch of 63 rows", SMP, batch(full(), 63), Runs::Many);
+    case("93h of 128 descriptors", SMP, configure_phys(full(), 128), Runs::Many);
+    case("51h of 63 rows", SMP, report(full(), 63), Runs::Many);
+    case("election over 128 phys and 1,024 routes", ELECT, full(), Runs::Many);
+    case("IDENTIFY, another address", IDENTIFY, other_address(full()), Runs::OneForEachPhy);
+    case("leaving", LEAVING, full(), Runs::OneForEachPhy);
+    case("start-up", START_UP, full(), Runs::Many);
+    println!();
+    growth();
+}
+
+fn growth() {
+    for phys in [8, 32, 128] {
+        case(&format!("OPEN, {phys} phys, no routes, none fits"), OPEN, open_to(shelf(phys, 0), NOWHERE), Runs::Many);
+    }
+    for routes in [64, 256, 1024] {
+        let lent = open_to(shelf(128, routes), NOWHERE);
+        case(&format!("OPEN, 128 phys, {routes} routes, none fits"), OPEN, lent, Runs::Many);
+    }
+    for phys in [8, 32, 128] {
+        case(&format!("primitive, {phys} phys"), PRIMITIVE, shelf(phys, 0), Runs::Many);
+    }
+    for rows in [1, 4, 16, 63] {
+        case(&format!("C1h batch, rows {rows}"), SMP, batch(shelf(128, 0), rows), Runs::Many);
+    }
+    for k in [1, 8, 32, 128] {
+        case(&format!("93h, descriptors {k}"), SMP, configure_phys(shelf(128, 0), k), Runs::Many);
+    }
+    for rows in [1, 16, 63] {
+        case(&format!("51h, rows {rows}"), SMP, report(shelf(128, 0), rows), Runs::Many);
+    }
+    for routes in [0, 256, 1024] {
+        case(&format!("election, 128 phys, {routes} routes"), ELECT, shelf(128, routes), Runs::Many);
+    }
+}
+
+fn case(name: &str, pair: Pair, lent: Lent, runs: Runs) {
+    agree(name, pair, &lent);
+    let mut work = lent.clone();
+    let (repeat, calls) = match runs {
+        Runs::Many => {
+            let repeat = repeats(pair, &mut work, &lent);
+            (repeat, repeat)
+        }
+        Runs::OneForEachPhy => (1, lent.phys.len() / 12),
+    };
+    let mut times = [const { Vec::new() }; 2];
+    for round in 0..ROUNDS {
+        let acts = [(0, pair.rattle), (1, pair.rust)];
+        let in_turn = if round % 2 == 0 { [0, 1] } else { [1, 0] };
+        for (which, act) in in_turn.map(|which| acts[which]) {
+            work.become_again(&lent);
+            times[which].push(sample(act, &mut work, repeat) as f64 / calls as f64);
+        }
+    }
+    let [rattle, rust] = times.map(median);
+    println!("{name:50} {rattle:12.1} {rust:8.1} {:8.2}", rattle / rust);
+}
+
+/// Both programs must do the same and must not refuse.
+fn agree(name: &str, pair: Pair, lent: &Lent) {
+    let (mut left, mut right) = (lent.clone(), lent.clone());
+    let answers = [(pair.rattle)(&mut left), (pair.rust)(&mut right)];
+    assert_eq!(answers[0], answers[1], "{name}: the answers differ");
+    assert_eq!(answers[0][0], 0, "{name}: refused");
+    assert!(left == right, "{name}: the buffers differ");
+}
+
+/// How many calls make a sample that the clock can tell.
+fn repeats(pair: Pair, work: &mut Lent, lent: &Lent) -> usize {
+    let mut repeat = 1;
+    loop {
+        work.become_again(lent);
+        if sample(pair.rust, work, repeat) >= SAMPLE_NS {
+            return repeat;
+        }
+        repeat *= 2;
+    }
+}
+
+/// The nanoseconds of so many runs.
+fn sample(act: Act, work: &mut Lent, repeat: usize) -> u128 {
+    let act = black_box(act);
+    let began = Instant::now();
+    for _ in 0..repeat {
+        black_box(act(black_box(work)));
+    }
+    began.elapsed().as_nanos()
+}
+
+fn median(mut times: Vec<f64>) -> f64 {
+    times.sort_by(f64::total_cmp);
+    times[times.len() / 2]
+}

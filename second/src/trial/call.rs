@@ -1,0 +1,192 @@
+//! A call of the header with all its bytes: what the model answers to it, and its form on the way to the driver.
+//!
+//! The driver's protocol, all numbers little-endian:
+//! - a call: one byte, which call (its place in the header, from 0); its numbers, 4 bytes each; its buffers, each 4
+//!   bytes of length and then the bytes; numbers and buffers in the header's order;
+//! - the byte 255 instead of a call: all answers so far are to be sent on;
+//! - an answer: the call's byte; one byte, 0 where the driver found every const buffer and every byte around the buffers
+//!   as before; four fields of 8 bytes (0 where the answer has fewer); then every byte of every buffer that is not const.
+
+use crate::{broadcast_frame, elect, identify, leaving, open, primitive, smp, start_up};
+
+#[derive(Clone, Debug)]
+pub enum Call {
+    StartUp {
+        permissions: Vec<u8>,
+    },
+    Leaving {
+        phys: Vec<u8>,
+        phy: u32,
+    },
+    Identify {
+        phys: Vec<u8>,
+        phy: u32,
+        address: Vec<u8>,
+    },
+    Elect {
+        phys: Vec<u8>,
+        routes: Vec<u8>,
+    },
+    Open {
+        phys: Vec<u8>,
+        routes: Vec<u8>,
+        permissions: Vec<u8>,
+        phy: u32,
+        frame: Vec<u8>,
+        out: Vec<u8>,
+    },
+    Primitive {
+        phys: Vec<u8>,
+        permissions: Vec<u8>,
+        phy: u32,
+        number: u32,
+        set: Vec<u8>,
+        out: Vec<u8>,
+    },
+    BroadcastFrame {
+        phys: Vec<u8>,
+        permissions: Vec<u8>,
+        phy: u32,
+        frame: Vec<u8>,
+        set: Vec<u8>,
+        out: Vec<u8>,
+    },
+    Smp {
+        phys: Vec<u8>,
+        permissions: Vec<u8>,
+        phy: u32,
+        carried: u32,
+        request: Vec<u8>,
+        response: Vec<u8>,
+        set: Vec<u8>,
+    },
+}
+
+/// Ends a batch: the driver sends on what it has gathered.
+pub const SEND_ON: u8 = 255;
+
+/// How many fields an answer has on its way from the driver.
+pub const FIELDS: usize = 4;
+
+/// An answer: its fields, refusal first, and the buffers that are not const, as they are after the call.
+#[derive(Clone, Debug, PartialEq, Eq)]
+pub struct Answer {
+    pub fields: [u64; FIELDS],
+    pub buffers: Vec<Vec<u8>>,
+}
+
+impl Answer {
+    pub fn refusal(&self) -> u64 {
+        self.fields[0]
+    }
+
+    fn new(fields: &[u64], buffers: Vec<Vec<u8>>) -> Answer {
+        let mut all = [0; FIELDS];
+        all[..fields.len()].copy_from_slice(fields);
+        Answer { fields: all, buffers }
+    }
+}
+
+/// A call taken apart: its place in the header, its numbers, and its buffers by name.
+pub struct Parts<'a> {
+    pub place: u8,
+    pub name: &'static str,
+    pub numbers: Vec<(&'static str, u32)>,
+    pub buffers: Vec<(&'static str, &'a [u8])>,
+}
+
+pub const NAMES: [&str; 8] =
+    ["start_up", "leaving", "identify", "elect", "open", "primitive", "broadcast_frame", "smp"];
+
+impl Call {
+    pub fn parts(&self) -> Parts<'_> {
+        let (place, numbers, buffers) = match self {
+            Call::StartUp { permissions } => (0, vec![], vec![("permissions", permissions)]),
+            Call::Leaving { phys, phy } => (1, vec![("phy", *phy)], vec![("phys", phys)]),
+            Call::Identify { phys, phy, address } => {
+                (2, vec![("phy", *phy)], vec![("phys", phys), ("address", address)])
+            }
+            Call::Elect { phys, routes } => (3, vec![], vec![("phys", phys), ("routes", routes)]),
+            Call::Open { phys, routes, permissions, phy, frame, out } => (
+                4,
+                vec![("phy", *phy)],
+                vec![("phys", phys), ("routes", routes), ("permissions", permissions), ("frame", frame), ("out", out)],
+            ),
+            Call::Primitive { phys, permissions, phy, number, set, out } => (
+                5,
+                vec![("phy", *phy), ("number", *number)],
+                vec![("phys", phys), ("permissions", permissions), ("set", set), ("out", out)],
+            ),
+            Call::BroadcastFrame { phys, permissions, phy, frame, set, out } => (
+                6,
+                vec![("phy", *phy)],
+                vec![("phys", phys), ("permissions", permissions), ("frame", frame), ("set", set), ("out", out)],
+            ),
+            Call::Smp { phys, permissions, phy, carried, request, response, set } => (
+                7,
+                vec![("phy", *phy), ("carried", *carried)],
+                vec![
+                    ("phys", phys),
+                    ("permissions", permissions),
+                    ("request", request),
+                    ("response", response),
+                    ("set", set),
+                ],
+            ),
+        };
+        let buffers = buffers.into_iter().map(|(name, bytes)| (name, bytes.as_slice())).collect();
+        Parts { place, name: NAMES[usize::from(place)], numbers, buffers }
+    }
+
+    /// Appends the call as the driver reads it.
+    pub fn send(&self, to: &mut Vec<u8>) {
+        let parts = self.parts();
+        to.push(parts.place);
+        for (_, number) in parts.numbers {
+            to.extend(number.to_le_bytes());
+        }
+        for (_, bytes) in parts.buffers {
+            to.extend((bytes.len() as u32).to_le_bytes());
+            to.extend(bytes);
+        }
+    }
+
+    /// What the model answers, and the buffers that are not const after it.
+    pub fn model(&self) -> Answer {
+        match self.clone() {
+            Call::StartUp { mut permissions } => {
+                let refusal = start_up(&mut permissions);
+                Answer::new(&[refusal.into()], vec![permissions])
+            }
+            Call::Leaving { mut phys, phy } => {
+                let refusal = leaving(&mut phys, phy);
+                Answer::new(&[refusal.into()], vec![phys])
+            }
+            Call::Identify { mut phys, phy, address } => {
+                let refusal = identify(&mut phys, phy, &address);
+                Answer::new(&[refusal.into()], vec![phys])
+            }
+            Call::Elect { phys, routes } => {
+                let elected = elect(&phys, &routes);
+                Answer::new(&[elected.refusal.into(), elected.priority.into(), elected.address], vec![])
+            }
+            Call::Open { phys, routes, permissions, phy, frame, mut out } => {
+                let opened = open(&phys, &routes, &permissions, phy, &frame, &mut out);
+                Answer::new(&[opened.refusal, opened.outcome, opened.phy].map(u64::from), vec![out])
+            }
+            Call::Primitive { phys, permissions, phy, number, mut set, mut out } => {
+                let told = primitive(&phys, &permissions, phy, number, &mut set, &mut out);
+                Answer::new(&[told.refusal, told.count].map(u64::from), vec![set, out])
+            }
+            Call::BroadcastFrame { phys, permissions, phy, frame, mut set, mut out } => {
+                let told = broadcast_frame(&phys, &permissions, phy, &frame, &mut set, &mut out);
+                Answer::new(&[told.refusal, told.count].map(u64::from), vec![set, out])
+            }
+            Call::Smp { mut phys, mut permissions, phy, carried, request, mut response, mut set } => {
+                let answer = smp(&mut phys, &mut permissions, phy, carried, &request, &mut response, &mut set);
+                let fields = [answer.refusal, answer.result, answer.length, answer.count].map(u64::from);
+                Answer::new(&fields, vec![phys, permissions, response, set])
+            }
+        }
+    }
+}

@@ -1,0 +1,268 @@
+//! Which classes of answers a run has reached. A run that never reached one of them has shown nothing about it.
+
+use super::call::{Answer, Call, NAMES};
+use crate::permission::may_change_zoning;
+use crate::smp::{CONFIGURE_PHY_ZONE, CONFIGURE_ZONE_PERMISSION, REPORT_ZONE_PERMISSION};
+use crate::speaking::source_group;
+use crate::tables::{permission_table, PhyRecord};
+use std::collections::BTreeMap;
+use std::fmt;
+
+/// All classes that a run must reach, by call. Refusal 8 has none: nothing provokes it.
+const REQUIRED: [(&str, &[&str]); 8] = [
+    ("start_up", &["written", "refused 1"]),
+    ("leaving", &["left", "refused 1", "refused 2", "refused 7"]),
+    (
+        "identify",
+        &[
+            "no address known",
+            "same address",
+            "other address",
+            "refused 1",
+            "refused 2",
+            "refused 4",
+            "refused 5",
+            "refused 7",
+        ],
+    ),
+    ("elect", &["none", "a phy", "a route", "refused 1"]),
+    (
+        "open",
+        &[
+            "NO DESTINATION",
+            "NO DESTINATION, zero",
+            "BAD DESTINATION",
+            "BAD DESTINATION, by a route",
+            "ZONE VIOLATION",
+            "FORWARD to other phys",
+            "FORWARD to other phys, by a route",
+            "FORWARD participating, from participating",
+            "FORWARD participating, from others",
+            "FORWARD participating, by a route",
+            "refused 1",
+            "refused 2",
+            "refused 3",
+            "refused 4",
+            "refused 5",
+            "refused 7",
+        ],
+    ),
+    ("primitive", &["none told", "some told", "refused 1", "refused 2", "refused 3", "refused 5", "refused 7"]),
+    (
+        "broadcast_frame",
+        &[
+            "type 2h",
+            "type 3h",
+            "refused 1",
+            "refused 2",
+            "refused 3",
+            "refused 4",
+            "refused 5",
+            "refused 6",
+            "refused 7",
+        ],
+    ),
+    (
+        "smp",
+        &[
+            "93h 00h k even",
+            "93h 00h k odd",
+            "93h 00h k = 0",
+            "93h 02h no right",
+            "93h 02h descriptor",
+            "93h 03h",
+            "93h 10h",
+            "C1h 00h single",
+            "C1h 00h batch",
+            "C1h 00h batch, k = 0",
+            "C1h 01h",
+            "C1h 02h single",
+            "C1h 02h batch",
+            "C1h 02h other operation",
+            "C1h 03h",
+            "C1h 03h single",
+            "C1h 03h batch",
+            "C1h 11h",
+            "51h 00h",
+            "51h 00h no rows",
+            "51h 00h 63 rows",
+            "51h 01h",
+            "51h 03h",
+            "51h 11h",
+            "other function",
+            "refused 1",
+            "refused 2",
+            "refused 3",
+            "refused 4",
+            "refused 5",
+            "refused 5, carried",
+            "refused 7",
+        ],
+    ),
+];
+
+#[derive(Default)]
+pub struct Coverage(BTreeMap<(usize, &'static str), u64>);
+
+impl Coverage {
+    pub fn count(&mut self, call: &Call, answer: &Answer) {
+        let place = usize::from(call.parts().place);
+        *self.0.entry((place, class(call, answer))).or_default() += 1;
+    }
+
+    /// The classes that were never reached.
+    pub fn missing(&self) -> Vec<String> {
+        let all =
+            REQUIRED.iter().enumerate().flat_map(|(place, (_, classes))| classes.iter().map(move |c| (place, *c)));
+        all.filter(|key| !self.0.contains_key(key)).map(|(place, class)| format!("{}: {class}", NAMES[place])).collect()
+    }
+}
+
+impl fmt::Display for Coverage {
+    fn fmt(&self, f: &mut fmt::Formatter) -> fmt::Result {
+        for ((place, class), count) in &self.0 {
+            writeln!(f, "{:16} {class:44} {count:9}", NAMES[*place])?;
+        }
+        Ok(())
+    }
+}
+
+fn class(call: &Call, answer: &Answer) -> &'static str {
+    match answer.refusal() {
+        0 => answered(call, answer),
+        5 => refused_5(call),
+        number => ["", "refused 1", "refused 2", "refused 3", "refused 4", "", "refused 6", "refused 7", "refused 8"]
+            [number as usize],
+    }
+}
+
+fn refused_5(call: &Call) -> &'static str {
+    match call {
+        Call::Smp { request, .. } if request[0] == 0x40 => "refused 5, carried",
+        _ => "refused 5",
+    }
+}
+
+fn answered(call: &Call, answer: &Answer) -> &'static str {
+    let some = answer.fields[1] != 0;
+    match call {
+        Call::StartUp { .. } => "written",
+        Call::Leaving { .. } => "left",
+        Call::Identify { phys, phy, address } => identified(record(phys, *phy), address),
+        Call::Elect { phys, .. } => elected(phys, answer),
+        Call::Open { phys, phy, frame, .. } => opened(phys, *phy, frame, answer),
+        Call::Primitive { .. } if some => "some told",
+        Call::Primitive { .. } => "none told",
+        Call::BroadcastFrame { frame, .. } if frame[0] & 0x0f == 2 => "type 2h",
+        Call::BroadcastFrame { .. } => "type 3h",
+        Call::Smp { phys, permissions, phy, carried, request, .. } => {
+            let source = source_group(&record(phys, *phy), *carried as u8);
+            let right = permission_table(permissions).is_ok_and(|rows| may_change_zoning(rows, source));
+            by_function(request, answer, right)
+        }
+    }
+}
+
+fn record(phys: &[u8], phy: u32) -> PhyRecord {
+    PhyRecord::from(&phys.as_chunks::<12>().0[phy as usize])
+}
+
+fn identified(before: PhyRecord, address: &[u8]) -> &'static str {
+    if !before.address_known {
+        "no address known"
+    } else if before.address.to_be_bytes() == address {
+        "same address"
+    } else {
+        "other address"
+    }
+}
+
+fn elected(phys: &[u8], answer: &Answer) -> &'static str {
+    let (priority, address) = (answer.fields[1], answer.fields[2]);
+    let is_it = |record: PhyRecord| record.ready && (u64::from(record.priority), record.address) == (priority, address);
+    if priority == 0 {
+        "none"
+    } else if phys.as_chunks::<12>().0.iter().map(PhyRecord::from).any(is_it) {
+        "a phy"
+    } else {
+        "a route"
+    }
+}
+
+fn opened(phys: &[u8], phy: u32, frame: &[u8], answer: &Answer) -> &'static str {
+    // Where the phy that was found has another address attached, a route led there.
+    let by_route = |found| record(phys, found).address.to_be_bytes() != frame[4..12];
+    match answer.fields[1] {
+        1 if frame[4..12] == [0; 8] => "NO DESTINATION, zero",
+        1 => "NO DESTINATION",
+        2 if by_route(phy) => "BAD DESTINATION, by a route",
+        2 => "BAD DESTINATION",
+        3 => "ZONE VIOLATION",
+        _ => forwarded(record(phys, phy), record(phys, answer.fields[2] as u32), by_route(answer.fields[2] as u32)),
+    }
+}
+
+fn forwarded(arriving: PhyRecord, towards: PhyRecord, by_route: bool) -> &'static str {
+    match (towards.participating, by_route) {
+        (false, true) => "FORWARD to other phys, by a route",
+        (false, false) => "FORWARD to other phys",
+        (true, true) => "FORWARD participating, by a route",
+        (true, false) if arriving.participating => "FORWARD participating, from participating",
+        (true, false) => "FORWARD participating, from others",
+    }
+}
+
+fn by_function(request: &[u8], answer: &Answer, right: bool) -> &'static str {
+    let result = answer.fields[1];
+    match request[1] {
+        CONFIGURE_PHY_ZONE => configured_phys(request, result, right),
+        CONFIGURE_ZONE_PERMISSION => configured_permission(request, result),
+        REPORT_ZONE_PERMISSION => reported(answer, result),
+        _ => "other function",
+    }
+}
+
+fn configured_phys(request: &[u8], result: u64, right: bool) -> &'static str {
+    match (result, request.get(7)) {
+        (0, Some(0)) => "93h 00h k = 0",
+        (0, Some(k)) if k % 2 == 1 => "93h 00h k odd",
+        (0, _) => "93h 00h k even",
+        (2, _) if right => "93h 02h descriptor",
+        (2, _) => "93h 02h no right",
+        (3, _) => "93h 03h",
+        (0x10, _) => "93h 10h",
+        _ => "93h another result",
+    }
+}
+
+fn configured_permission(request: &[u8], result: u64) -> &'static str {
+    // Where the length does not agree, byte 9 was not looked at.
+    let agrees = request.len() == 4 + 4 * usize::from(request[3]) && request.len() >= 12;
+    let operation = if agrees { request[9] >> 4 } else { 0 };
+    match (result, operation) {
+        (0, 8) => "C1h 00h single",
+        (0, 9) if request[11] == 0 => "C1h 00h batch, k = 0",
+        (0, 9) => "C1h 00h batch",
+        (1, _) => "C1h 01h",
+        (2, 8) => "C1h 02h single",
+        (2, 9) => "C1h 02h batch",
+        (2, _) => "C1h 02h other operation",
+        (3, 8) => "C1h 03h single",
+        (3, 9) => "C1h 03h batch",
+        (3, _) => "C1h 03h",
+        (0x11, _) => "C1h 11h",
+        _ => "C1h another result",
+    }
+}
+
+fn reported(answer: &Answer, result: u64) -> &'static str {
+    match (result, answer.fields[2]) {
+        (0, 12) => "51h 00h no rows",
+        (0, 1020) => "51h 00h 63 rows",
+        (0, _) => "51h 00h",
+        (1, _) => "51h 01h",
+        (3, _) => "51h 03h",
+        (0x11, _) => "51h 11h",
+        _ => "51h another result",
+    }
+}

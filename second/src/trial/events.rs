@@ -1,0 +1,113 @@
+//! Streams of events for the bench program.
+
+use super::random::Random;
+use super::requests::{broadcast_frame, damage_frame, group_byte, open_frame, request};
+use super::shelf::Shelf;
+use crate::bench::{Event, Rack, BROADCAST_FRAME, IDENTIFY, LEAVING, OPEN, PRIMITIVE, SMP};
+
+/// A stream of so many events on a rack that they change, most of them good.
+pub fn stream(random: &mut Random, events: usize) -> Vec<u8> {
+    let mut rack = Rack::default();
+    let mut shelf = Shelf::bench(random);
+    let mut bytes = Vec::new();
+    for _ in 0..events {
+        let (kind, phy, carried, payload) = event(random, &shelf);
+        let event = Event { kind, phy, carried, payload: &payload };
+        bytes.extend(event.bytes());
+        rack.line(&event);
+        shelf.phys.clone_from(&rack.phys);
+        shelf.permissions.clone_from(&rack.permissions);
+    }
+    bytes
+}
+
+/// Some bytes of the stream become others. Where one was a length, all events after it are others as well.
+pub fn damage(random: &mut Random, stream: &mut [u8]) {
+    for _ in 0..random.between(1, 4) {
+        if !stream.is_empty() {
+            stream[random.below(stream.len())] = random.byte();
+        }
+    }
+}
+
+fn event(random: &mut Random, shelf: &Shelf) -> (u8, u8, u8, Vec<u8>) {
+    let (kind, phy, mut payload) = match random.below(40) {
+        0..=14 => {
+            let (phy, carried) = shelf.speaker(random);
+            return (SMP, unlikely_phy(random, phy), carried, request(random, shelf.count()));
+        }
+        15..=22 => (OPEN, ready_phy(random, shelf), open_payload(random, shelf)),
+        23..=26 => (PRIMITIVE, ready_phy(random, shelf), vec![primitive_number(random)]),
+        27..=30 => broadcast(random, shelf),
+        31..=34 => identify(random, shelf),
+        35..=37 => (LEAVING, ready_phy(random, shelf), Vec::new()),
+        38 => unknown_kind(random),
+        _ => (random.pick(&[PRIMITIVE, IDENTIFY, LEAVING]), 0, wrong_payload(random)),
+    };
+    if kind == OPEN && random.percent(5) {
+        damage_frame(random, &mut payload);
+    }
+    (kind, unlikely_phy(random, phy), group_byte(random), payload)
+}
+
+fn ready_phy(random: &mut Random, shelf: &Shelf) -> usize {
+    shelf.phy(random, |record| record.ready)
+}
+
+/// The phy, or now and then a number that the rack does not have.
+fn unlikely_phy(random: &mut Random, phy: usize) -> u8 {
+    if random.percent(2) {
+        random.pick(&[8, 9, 127, 128, 255])
+    } else {
+        phy as u8
+    }
+}
+
+fn primitive_number(random: &mut Random) -> u8 {
+    if random.percent(10) {
+        random.byte()
+    } else {
+        random.byte() & 0x07
+    }
+}
+
+fn open_payload(random: &mut Random, shelf: &Shelf) -> Vec<u8> {
+    let destination = shelf.address(random);
+    open_frame(random, destination)
+}
+
+fn broadcast(random: &mut Random, shelf: &Shelf) -> (u8, usize, Vec<u8>) {
+    let phy = shelf.phy(random, |record| record.ready && record.participating);
+    let mut frame = broadcast_frame(random);
+    if random.percent(15) {
+        damage_frame(random, &mut frame);
+    }
+    (BROADCAST_FRAME, phy, frame)
+}
+
+fn identify(random: &mut Random, shelf: &Shelf) -> (u8, usize, Vec<u8>) {
+    let phy = shelf.phy(random, |record| !record.ready);
+    let address = if random.percent(85) { shelf.record(phy).address } else { shelf.address(random) };
+    (IDENTIFY, phy, address.to_be_bytes().to_vec())
+}
+
+fn unknown_kind(random: &mut Random) -> (u8, usize, Vec<u8>) {
+    let kind = random.pick(&[0, 7, 8, 9, 128, 254, 255]);
+    (kind, random.below(8), any_payload(random))
+}
+
+/// A payload that none of kinds 3, 5 and 6 has.
+fn wrong_payload(random: &mut Random) -> Vec<u8> {
+    let length = random.pick(&[2, 3, 7, 9, 255, 256]);
+    random.bytes(length)
+}
+
+/// Any payload, at times as long as two bytes can tell.
+fn any_payload(random: &mut Random) -> Vec<u8> {
+    let length = match random.below(30) {
+        0 => random.pick(&[65_535, 65_534, 32_768]),
+        1 => random.below(65_536),
+        _ => random.below(40),
+    };
+    random.bytes(length)
+}

@@ -1,0 +1,284 @@
+//! Calls without end: each on a shelf that earlier calls have changed, most of them good, some damaged.
+
+use super::call::{Answer, Call};
+use super::random::Random;
+use super::requests::{broadcast_frame, damage_frame, open_frame, request};
+use super::shelf::Shelf;
+
+pub struct Generator {
+    random: Random,
+    shelf: Shelf,
+    /// How many calls the shelf still has before a new one takes its place.
+    left: usize,
+}
+
+/// What may be wrong with a call, beside its frame or request.
+#[derive(Clone, Copy, PartialEq, Eq)]
+enum Damage {
+    Sizes,
+    Phy,
+    Room,
+    Readiness,
+    Number,
+}
+
+impl Generator {
+    pub fn new(seed: u64) -> Generator {
+        let mut random = Random::new(seed);
+        let shelf = Shelf::random(&mut random);
+        Generator { random, shelf, left: 1 }
+    }
+
+    /// The next call.
+    pub fn call(&mut self) -> Call {
+        if self.left == 0 {
+            self.shelf = Shelf::random(&mut self.random);
+            self.left = self.random.between(1, 60);
+        }
+        self.left -= 1;
+        let mut call = match self.random.below(40) {
+            0 => self.start_up(),
+            1..=3 => self.leaving(),
+            4..=7 => self.identify(),
+            8..=9 => self.elect(),
+            10..=18 => self.open(),
+            19..=21 => self.primitive(),
+            22..=25 => self.broadcast_frame(),
+            _ => self.smp(),
+        };
+        self.damage(&mut call);
+        call
+    }
+
+    /// The shelf goes on with the tables that an answered call left behind.
+    pub fn keep(&mut self, call: &Call, after: &Answer) {
+        if after.refusal() != 0 {
+            return;
+        }
+        match (call, after.buffers.as_slice()) {
+            (Call::StartUp { .. }, [permissions]) => self.shelf.permissions.clone_from(permissions),
+            (Call::Leaving { .. } | Call::Identify { .. }, [phys]) => self.shelf.phys.clone_from(phys),
+            (Call::Smp { .. }, [phys, permissions, ..]) => {
+                self.shelf.phys.clone_from(phys);
+                self.shelf.permissions.clone_from(permissions);
+            }
+            _ => {}
+        }
+    }
+
+    fn start_up(&mut self) -> Call {
+        Call::StartUp { permissions: self.shelf.permissions.clone() }
+    }
+
+    fn leaving(&mut self) -> Call {
+        let phy = self.shelf.phy(&mut self.random, |record| record.ready) as u32;
+        Call::Leaving { phys: self.shelf.phys.clone(), phy }
+    }
+
+    fn identify(&mut self) -> Call {
+        let phy = self.shelf.phy(&mut self.random, |record| !record.ready);
+        let address = match self.random.below(3) {
+            0 => self.shelf.record(phy).address,
+            _ => self.shelf.address(&mut self.random),
+        };
+        let mut address = address.to_be_bytes().to_vec();
+        if self.random.percent(8) {
+            let length = self.random.pick(&[0, 1, 7, 9, 16, 264]);
+            address.resize(length, 0);
+        }
+        Call::Identify { phys: self.shelf.phys.clone(), phy: phy as u32, address }
+    }
+
+    fn elect(&mut self) -> Call {
+        Call::Elect { phys: self.shelf.phys.clone(), routes: self.shelf.routes.clone() }
+    }
+
+    fn open(&mut self) -> Call {
+        let phy = self.ready_phy();
+        let destination = self.shelf.address(&mut self.random);
+        let mut frame = open_frame(&mut self.random, destination);
+        if self.random.percent(8) {
+            damage_frame(&mut self.random, &mut frame);
+        }
+        Call::Open {
+            phys: self.shelf.phys.clone(),
+            routes: self.shelf.routes.clone(),
+            permissions: self.shelf.permissions.clone(),
+            phy,
+            frame,
+            out: self.buffer(28),
+        }
+    }
+
+    fn primitive(&mut self) -> Call {
+        Call::Primitive {
+            phys: self.shelf.phys.clone(),
+            permissions: self.shelf.permissions.clone(),
+            phy: self.ready_phy(),
+            number: self.random.below(8) as u32,
+            set: self.buffer(16),
+            out: self.buffer(28),
+        }
+    }
+
+    fn broadcast_frame(&mut self) -> Call {
+        let phy = self.shelf.phy(&mut self.random, |record| record.ready && record.participating) as u32;
+        let mut frame = broadcast_frame(&mut self.random);
+        if self.random.percent(15) {
+            damage_frame(&mut self.random, &mut frame);
+        }
+        Call::BroadcastFrame {
+            phys: self.shelf.phys.clone(),
+            permissions: self.shelf.permissions.clone(),
+            phy,
+            frame,
+            set: self.buffer(16),
+            out: self.buffer(28),
+        }
+    }
+
+    fn smp(&mut self) -> Call {
+        let (phy, carried) = self.shelf.speaker(&mut self.random);
+        let request = request(&mut self.random, self.shelf.count());
+        Call::Smp {
+            phys: self.shelf.phys.clone(),
+            permissions: self.shelf.permissions.clone(),
+            phy: phy as u32,
+            carried: carried.into(),
+            request,
+            response: self.buffer(1020),
+            set: self.buffer(16),
+        }
+    }
+
+    fn ready_phy(&mut self) -> u32 {
+        self.shelf.phy(&mut self.random, |record| record.ready) as u32
+    }
+
+    /// A buffer with room enough and any bytes in it, so that a byte written or left by mistake shows.
+    fn buffer(&mut self, needed: usize) -> Vec<u8> {
+        let more = self.random.pick(&[0, 0, 0, 1, 4, 13]);
+        self.random.bytes(needed + more)
+    }
+
+    /// Most calls stay good. Two damages at once show the order of the refusals.
+    fn damage(&mut self, call: &mut Call) {
+        let times = match self.random.below(100) {
+            0..=79 => 0,
+            80..=92 => 1,
+            _ => 2,
+        };
+        for _ in 0..times {
+            let all = [Damage::Sizes, Damage::Phy, Damage::Room, Damage::Readiness, Damage::Number];
+            let damage = self.random.pick(&all);
+            damage_once(&mut self.random, call, damage);
+        }
+    }
+}
+
+fn damage_once(random: &mut Random, call: &mut Call, damage: Damage) {
+    match damage {
+        Damage::Sizes => damage_size(random, call),
+        Damage::Phy => damage_phy(random, call),
+        Damage::Room => damage_room(random, call),
+        Damage::Readiness => damage_readiness(call),
+        Damage::Number => damage_number(random, call),
+    }
+}
+
+fn damage_size(random: &mut Random, call: &mut Call) {
+    let mut tables: Vec<(&mut Vec<u8>, &[usize])> = match call {
+        Call::StartUp { permissions } => vec![(permissions, &PERMISSION_SIZES)],
+        Call::Leaving { phys, .. } | Call::Identify { phys, .. } => vec![(phys, &PHY_SIZES)],
+        Call::Elect { phys, routes } => vec![(phys, &PHY_SIZES), (routes, &ROUTE_SIZES)],
+        Call::Open { phys, routes, permissions, .. } => {
+            vec![(phys, &PHY_SIZES), (routes, &ROUTE_SIZES), (permissions, &PERMISSION_SIZES)]
+        }
+        Call::Primitive { phys, permissions, .. }
+        | Call::BroadcastFrame { phys, permissions, .. }
+        | Call::Smp { phys, permissions, .. } => vec![(phys, &PHY_SIZES), (permissions, &PERMISSION_SIZES)],
+    };
+    let which = random.below(tables.len());
+    let (table, sizes) = &mut tables[which];
+    let size = random.pick(sizes);
+    if random.percent(50) {
+        // A byte or a part of a record too many or missing. (A whole record leaves another good size.)
+        let size = table.len().saturating_add_signed(random.pick(&[-1, 1, -12, 12, 6, -11]));
+        table.resize(size, 0);
+    } else {
+        table.resize(size, 0xa5);
+    }
+}
+
+/// Wrong sizes, and right ones at the edge. The last of each is a right one where a size is cut to 16 bits.
+const PHY_SIZES: [usize; 8] = [0, 1, 12, 1535, 1536, 1537, 1548, 65_536 + 1536];
+const ROUTE_SIZES: [usize; 8] = [0, 1, 11, 12, 12_288, 12_289, 12_300, 65_536 + 12_288];
+const PERMISSION_SIZES: [usize; 7] = [0, 16, 2032, 2047, 2049, 2064, 65_536 + 2048];
+
+fn damage_phy(random: &mut Random, call: &mut Call) {
+    let (phys, phy) = match call {
+        Call::StartUp { .. } | Call::Elect { .. } => return,
+        Call::Leaving { phys, phy }
+        | Call::Identify { phys, phy, .. }
+        | Call::Open { phys, phy, .. }
+        | Call::Primitive { phys, phy, .. }
+        | Call::BroadcastFrame { phys, phy, .. }
+        | Call::Smp { phys, phy, .. } => (phys, phy),
+    };
+    let count = (phys.len() / 12) as u32;
+    *phy = random.pick(&[count, count + 1, 127, 128, 255, 256, *phy + 256, *phy + 65_536, 1 << 31, u32::MAX]);
+}
+
+fn damage_room(random: &mut Random, call: &mut Call) {
+    let (buffer, needed) = match call {
+        Call::Open { out, .. } => (out, 28),
+        Call::Primitive { set, out, .. } | Call::BroadcastFrame { set, out, .. } => {
+            if random.percent(50) {
+                (set, 16)
+            } else {
+                (out, 28)
+            }
+        }
+        Call::Smp { response, set, .. } => {
+            if random.percent(50) {
+                (set, 16)
+            } else {
+                (response, 1020)
+            }
+        }
+        _ => return,
+    };
+    let size = random.pick(&[0, 1, needed - 1, needed - 1, needed]);
+    buffer.resize(size, 0x5a);
+}
+
+/// The arriving phy becomes ready where it was not, and the other way round.
+fn damage_readiness(call: &mut Call) {
+    match call {
+        Call::StartUp { .. } | Call::Elect { .. } => {}
+        Call::Leaving { phys, phy }
+        | Call::Identify { phys, phy, .. }
+        | Call::Open { phys, phy, .. }
+        | Call::Primitive { phys, phy, .. }
+        | Call::BroadcastFrame { phys, phy, .. }
+        | Call::Smp { phys, phy, .. } => {
+            if let Some(record) = phys.as_chunks_mut::<12>().0.get_mut(*phy as usize) {
+                record[2] ^= 1;
+            }
+        }
+    }
+}
+
+fn damage_number(random: &mut Random, call: &mut Call) {
+    match call {
+        Call::Primitive { number, .. } => {
+            *number = random.pick(&[8, 9, 15, 16, 128, 255, 256, *number + 256, *number + 65_536, u32::MAX]);
+        }
+        Call::Smp { carried, .. } => {
+            *carried = random.pick(&[256, 255, *carried + 256, *carried + 65_536, 1 << 31, u32::MAX]);
+        }
+        Call::Open { frame, .. } | Call::BroadcastFrame { frame, .. } => damage_frame(random, frame),
+        Call::Identify { address, .. } => address.fill(0),
+        _ => {}
+    }
+}

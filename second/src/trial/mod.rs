@@ -1,0 +1,9 @@
+//! Trying the library against the model: calls, where they come from, and which classes of answers they reach.
+
+pub mod call;
+pub mod coverage;
+pub mod events;
+pub mod generate;
+pub mod random;
+pub mod requests;
+pub mod shelf;

@@ -1,0 +1,168 @@
+//! Tables of the right sizes with any contents: a shelf on which calls follow one another.
+
+use super::random::Random;
+use super::requests::{group, group_byte, reserved};
+use crate::bench::Rack;
+use crate::permission::may_change_zoning;
+use crate::speaking::source_group;
+use crate::start_up;
+use crate::tables::{permission_table, PhyRecord, Record};
+
+pub struct Shelf {
+    pub phys: Vec<u8>,
+    pub routes: Vec<u8>,
+    pub permissions: Vec<u8>,
+    /// The addresses that occur on this shelf, so that searches hit.
+    addresses: Vec<u64>,
+}
+
+impl Shelf {
+    pub fn random(random: &mut Random) -> Shelf {
+        let addresses = addresses(random);
+        let phys = if random.percent(10) { Rack::default().phys } else { phys(random, &addresses) };
+        let routes = routes(random, &addresses, phys.len() / 12);
+        Shelf { phys, routes, permissions: permissions(random), addresses }
+    }
+
+    /// The bench rack, without routes.
+    pub fn bench(random: &mut Random) -> Shelf {
+        let Rack { phys, permissions } = Rack::default();
+        Shelf { phys, routes: Vec::new(), permissions, addresses: addresses(random) }
+    }
+
+    pub fn count(&self) -> usize {
+        self.phys.len() / 12
+    }
+
+    pub fn record(&self, phy: usize) -> PhyRecord {
+        PhyRecord::from(&self.phys.as_chunks::<12>().0[phy])
+    }
+
+    /// An address that is likely to be found.
+    pub fn address(&self, random: &mut Random) -> u64 {
+        match random.below(10) {
+            0 => random.pick(&self.addresses),
+            1 => random.number(),
+            2..=5 if !self.routes.is_empty() => {
+                let record: &Record = &self.routes.as_chunks().0[random.below(self.routes.len() / 12)];
+                u64::from_be_bytes(record[..8].try_into().expect("8 bytes"))
+            }
+            _ => self.record(random.below(self.count())).address,
+        }
+    }
+
+    /// A phy that fits, where a few attempts find one; else any.
+    pub fn phy(&self, random: &mut Random, fits: impl Fn(&PhyRecord) -> bool) -> usize {
+        let attempts = 12;
+        let mut phy = random.below(self.count());
+        for _ in 0..attempts {
+            if fits(&self.record(phy)) {
+                break;
+            }
+            phy = random.below(self.count());
+        }
+        phy
+    }
+
+    /// A ready phy and a carried byte, mostly with the right to change zoning.
+    pub fn speaker(&self, random: &mut Random) -> (usize, u8) {
+        let rows = permission_table(&self.permissions).expect("a shelf's tables have the right sizes");
+        let want_right = random.percent(85);
+        let mut speaker = (0, 0);
+        for _ in 0..12 {
+            let carried = group_byte(random);
+            let phy = self.phy(random, |record| record.ready);
+            speaker = (phy, carried);
+            if !want_right || may_change_zoning(rows, source_group(&self.record(phy), carried)) {
+                break;
+            }
+        }
+        speaker
+    }
+}
+
+/// A handful of addresses: equal ones, zero, and some that differ in one byte only.
+fn addresses(random: &mut Random) -> Vec<u64> {
+    let base = 0x5000_0000_0000_0010;
+    let mut addresses = vec![0, u64::MAX, 1, 1 << 63];
+    addresses.extend((0..random.between(2, 24)).map(|i| base + i as u64));
+    for _ in 0..4 {
+        let place = 8 * random.below(8);
+        addresses.push(base ^ u64::from(random.byte()) << place);
+    }
+    addresses
+}
+
+fn phys(random: &mut Random, addresses: &[u64]) -> Vec<u8> {
+    let count = match random.below(10) {
+        0 => 1,
+        1 => 2,
+        2 => random.pick(&[7, 9, 63, 64, 65, 126, 127, 128]),
+        3 => 128,
+        4 => random.between(1, 128),
+        _ => random.between(3, 24),
+    };
+    let ready = random.pick(&[30, 70, 85, 95, 100]);
+    let participating = random.pick(&[0, 10, 40, 90]);
+    let distinct = random.percent(50);
+    let mut table = Vec::with_capacity(count * 12);
+    for phy in 0..count {
+        let address =
+            if distinct && random.percent(90) { 0x5000_0000_0000_0010 + phy as u64 } else { random.pick(addresses) };
+        table.extend(zoning(random, participating));
+        table.push(u8::from(random.percent(ready)) | u8::from(random.percent(80)) << 1 | reserved(random) & 0xfc);
+        table.push(if random.percent(90) { 0 } else { random.byte() });
+        table.extend(address.to_be_bytes());
+    }
+    table
+}
+
+/// Bytes 0 and 1 of a phy record.
+fn zoning(random: &mut Random, participating: usize) -> [u8; 2] {
+    let bit = u8::from(random.percent(participating)) << 4;
+    let priority = if random.percent(50) { 0 } else { random.byte() & 0x0f };
+    [bit | priority | reserved(random) & 0xe0, group_byte(random)]
+}
+
+fn routes(random: &mut Random, addresses: &[u64], phys: usize) -> Vec<u8> {
+    let count = match random.below(40) {
+        0 => 1024,
+        1 => random.between(1000, 1024),
+        2..=11 => 0,
+        12..=15 => random.between(20, 200),
+        _ => random.between(1, 12),
+    };
+    let mut table = Vec::with_capacity(count * 12);
+    for _ in 0..count {
+        let phy = match random.below(10) {
+            0 => phys.min(255) as u8,
+            1 => random.pick(&[0, 127, 128, 254, 255]),
+            _ => random.below(phys) as u8,
+        };
+        let address = if random.percent(10) { random.number() } else { random.pick(addresses) };
+        table.extend(address.to_be_bytes());
+        table.push(phy);
+        table.push(group_byte(random));
+        table.push(random.byte() & 0x0f | reserved(random) & 0xf0);
+        table.push(if random.percent(90) { 0 } else { random.byte() });
+    }
+    table
+}
+
+/// Permissions: as at start-up, with more pairs switched on, or any bytes.
+fn permissions(random: &mut Random) -> Vec<u8> {
+    let mut table = vec![0; 2048];
+    start_up(&mut table);
+    match random.below(10) {
+        0..=3 => {}
+        4..=6 => {
+            for _ in 0..random.between(1, 200) {
+                let [a, b] = [0, 1].map(|_| usize::from(group(random)));
+                table[16 * a + 15 - b / 8] |= 1 << (b % 8);
+            }
+        }
+        7 => table.fill(random.pick(&[0x00, 0xff])),
+        _ => table = random.bytes(2048),
+    }
+    table
+}

@@ -1,3 +1,5 @@
 pub mod Answers
 pub mod Exactly
 pub mod Histories
+pub mod Worked
+pub mod Shut

@@ -3,7 +3,7 @@ use mathlib.Core.List.{List, [], _∷_, _++_}
 use Prim.Native.Nat.{ℕ}
 use lib.ListN.{length, getD}
 use Rattle.permit.specs.Orders.{Order}
-use Rattle.tables.specs.Outcome.{Out, out}
+use Rattle.tables.specs.Outcome.{Answer, Out, out}
 use Rattle.links.specs.Links.{startUpOut, leavingOut, identifyOut}
 use Rattle.election.specs.Election.{electOut}
 use Rattle.opens.specs.Open.{openOut}
@@ -42,6 +42,9 @@ handedIn (opening phys routes phy frame buffer) t = buffer ∷ []
 handedIn (primitive phys phy number set frame) t = set ∷ frame ∷ []
 handedIn (broadcastFrame phys phy arrived set frame) t = set ∷ frame ∷ []
 handedIn (smp phys phy carried request response set) t = phys ∷ t ∷ response ∷ set ∷ []
+
+abbrev pub answerOf : Out → Answer
+answerOf (out a bs) = a
 
 -- buffer k at exit
 abbrev pub bufferOf : ℕ → Out → List ℕ

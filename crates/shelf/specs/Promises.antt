@@ -1,13 +1,14 @@
--- What is promised. Each statement is proved in proofs/: Answers.antt, ExactlyOne.antt, Cases.antt, History.antt.
+-- What is promised. The proofs are in proofs/: Answers.antt (Refusals, TurnedDown), Exactly.antt (ExactlyOne), Worked.antt (Cases, whose rows
+-- are in Cases.antt), Histories.antt (History, NoOpen, NoBroadcast) and Shut.antt (ShutOut).
 use mathlib.Core.Path.{_≡_}
-use mathlib.Core.Bool.{false}
+use mathlib.Core.Bool.{Bool, true, false}
 use mathlib.Core.Logic.{_⊎_}
 use mathlib.Core.List.{List, [], _∷_, _++_}
 use Prim.Native.Nat.{ℕ, _<_}
 use lib.ListN.{length, getD, drop}
 use Rattle.wire.specs.declared.PhyNumber.{PhyNumber}
 use Rattle.wire.specs.declared.ZoneGroup.{ZoneGroup}
-use Rattle.wire.specs.PhySet.{member}
+use Rattle.wire.specs.PhySet.{member, physIn}
 use Rattle.permit.specs.History.{Zone, latest, Says}
 use Rattle.tables.specs.Outcome.{Answer, refusal, answer, Out, out}
 use Rattle.tables.specs.Phys.{phyGroup, emptySet}
@@ -16,9 +17,9 @@ use Rattle.election.specs.Election.{electedAs}
 use Rattle.opens.specs.declared.Found.the-variants.{At}
 use Rattle.opens.specs.Search.{search}
 use Rattle.opens.specs.Open.{openedAs, openSource, openOut}
-use Rattle.broadcasts.specs.Broadcasts.{toldAs, frameSource, primitiveOut, broadcastOut}
+use Rattle.broadcasts.specs.Broadcasts.{toldAs, toldSet, frameSource, primitiveOut, broadcastOut}
 use Rattle.smp.specs.Smp.{answeredAs, functionOf}
-use Rattle.shelf.specs.Calls.{Call, startUp, smp, outcomeOf, handedIn, run, orders}
+use Rattle.shelf.specs.Calls.{Call, startUp, smp, outcomeOf, handedIn, answerOf, after, run, orders}
 
 -- ---- Answers
 
@@ -71,3 +72,17 @@ NoBroadcast =
     → ((source ≡ phyGroup phys phy) × (primitiveOut phys (run (startUp ∷ cs) t) phy number set frame ≡ out (answer v) bs))
     ⊎ ((source ≡ frameSource arrived) × (broadcastOut phys (run (startUp ∷ cs) t) phy arrived set frame ≡ out (answer v) bs))
     → member (getD bs 0 []) i ≡ false
+
+-- ---- Shut out by name: programs that meet no contract
+
+abbrev pub refused : Answer → Bool
+refused (refusal n) = true
+refused (answer values) = false
+
+-- refusing every call; one answer for all; changing nothing; a made-up phy count, the same for every set
+abbrev pub ShutOut : Type 0
+ShutOut =
+    (((c : Call) (t : List ℕ) → refused (answerOf (outcomeOf c t)) ≡ true) → ⊥)
+    × ((a : Answer) → ((c : Call) (t : List ℕ) → answerOf (outcomeOf c t) ≡ a) → ⊥)
+    × (((c : Call) (t : List ℕ) → after c t ≡ t) → ⊥)
+    × ((n : ℕ) → ((phys t : List ℕ) (phy source : ℕ) → physIn (toldSet phys t phy source) ≡ n) → ⊥)

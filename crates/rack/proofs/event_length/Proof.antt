@@ -1,0 +1,51 @@
+-- `rack::event_length` meets its contract.
+-- Assumes nothing.
+use Rattle.rack.proofs.EventLaws.{no-header, no-payload, whole-event}
+use borrow.Author.Needs.{needs}
+use Rattle.rack.proofs.event_length.Statement.{statement}
+use Rattle.rack.proofs.event_length.Tie as tie
+
+returns : tie.Need-returns
+returns c = search no-header
+
+shared-slice-read-wide : tie.Need-shared-slice-read-wide
+shared-slice-read-wide c = search needs
+
+wide-requires : tie.Need-wide-requires
+wide-requires c κs = search needs
+
+mul-length : tie.Need-mul-length
+mul-length c = search needs
+
+shared-slice-read-wide-2 : tie.Need-shared-slice-read-wide-2
+shared-slice-read-wide-2 c = search needs
+
+wide-requires-2 : tie.Need-wide-requires-2
+wide-requires-2 c κs = search needs
+
+add-length : tie.Need-add-length
+add-length c = search needs
+
+add-length-2 : tie.Need-add-length-2
+add-length-2 c = search needs
+
+returns-2 : tie.Need-returns-2
+returns-2 c = no-payload _ _ _ (c .before .before .before .before .before .if1 .left) (c .before .before .before .wide .ensures) (c .before .wide2 .ensures) (c .if2 .taken)
+
+returns-3 : tie.Need-returns-3
+returns-3 c = whole-event _ _ _ (c .before .before .before .before .before .if1 .left) (c .before .before .before .wide .ensures) (c .before .wide2 .ensures) (c .if2 .left)
+
+pub event-length-spec : {M : Type 1} → statement M
+event-length-spec =
+    tie.close
+    (tie.spec
+    returns
+    shared-slice-read-wide
+    wide-requires
+    mul-length
+    shared-slice-read-wide-2
+    wide-requires-2
+    add-length
+    add-length-2
+    returns-2
+    returns-3)

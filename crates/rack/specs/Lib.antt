@@ -1,0 +1,5 @@
+pub mod Rack
+pub mod Text
+pub mod Words
+pub mod Events
+pub mod Inner

@@ -45,17 +45,13 @@ module _ (phys permissions : List ℕ) (phy room space r : ℕ) (e : r ≡ first
       → n ≡ firstRefusal (frameChecks phys permissions phy arrived room space)
   frame-back arrived n z en = back (arrivalChecks phys permissions phy room space) _ r n tt e z en
 
--- ---- whether phy i is told, by each way out of the function that answers it
+-- ---- whether phy i is told
 module _ (phys permissions : List ℕ) (phy source i : ℕ) where
-  pub told-unready : phyByte phys i 2 % 2 ≡ 0 → false ≡ told phys permissions phy source i
-  unfolding told
-  told-unready h = rw h
-
   pub told-out : length phys % 12 ≡ 0 → phyCount phys ≤ i → false ≡ told phys permissions phy source i
   unfolding told
   told-out w h = rw (← ready-out phys i w h)
 
-  pub told-self : i ≡ phy → false ≡ told phys permissions phy source i
+  told-self : i ≡ phy → false ≡ told phys permissions phy source i
   unfolding told
   told-self e = rw (eq-eqb _ _ e) (go (ready phys i))
     where
@@ -63,12 +59,13 @@ module _ (phys permissions : List ℕ) (phy source i : ℕ) where
       go true = refl
       go false = refl
 
-  pub told-other : (g : ℕ) (x : Bool) → (phyByte phys i 2 % 2 ≡ 0 → ⊥) → (i ≡ phy → ⊥) → g ≡ phyGroup phys i → x ≡ P 16 permissions source g
-      → x ≡ told phys permissions phy source i
+  pub told-all : (g : ℕ) (x : Bool) → g ≡ phyGroup phys i → x ≡ P 16 permissions source g → ((ready phys i && not (eqb i phy)) && x) ≡ told phys permissions phy source i
   unfolding told
-  told-other g x h n eg e =
-      let o : phyByte phys i 2 % 2 ≡ 1 = omega arith in
-      rw (eq-eqb _ _ o, ne-eqb _ _ n, ← eg) e
+  told-all g x eg e = rw (e, eg) (regroup (ready phys i) (not (eqb i phy)) (P 16 permissions source (phyGroup phys i)))
+    where
+      regroup : (a b c : Bool) → ((a && b) && c) ≡ (a && (b && c))
+      regroup true b c = refl
+      regroup false b c = refl
 
   -- "It holds every ready phy, except the arriving one, with P(source group, its group) on": in the set exactly if so
   pub in-set : i < 128 → member (toldSet phys permissions phy source) i ≡ (ready phys i && (not (eqb i phy) && P 16 permissions source (phyGroup phys i)))
@@ -83,8 +80,6 @@ module _ (phys permissions : List ℕ) (phy source i : ℕ) where
       go true true = refl
       go true false = refl
       go false d = refl
-
-pub ruleset telling = (told-unready, told-out, told-self, told-other)
 
 pub length-told : (phys permissions : List ℕ) (phy source : ℕ) → length (toldSet phys permissions phy source) ≡ 16
 unfolding toldSet

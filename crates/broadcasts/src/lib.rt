@@ -115,7 +115,8 @@ fn frame_refusal(
     0
 }
 
-// Whether phy i is told: it is ready, is not the arriving one, and the source may reach its group.
+// Whether phy i is told: it is ready, is not the arriving one, and the source may reach its group. All three are asked of every phy:
+// no phy's answer can be foreseen, and a branch for each costs more than the question.
 fn is_told(phys: &[u8], permissions: &[u8], phy: PhyNumber, source: ZoneGroup, i: usize) -> bool
     requires { ⌜ Shelf (now phys) (now permissions) (source .0) ⌝ }
     ensures { λ r. ⌜ r ≡ told (now (phys .entry)) (now (permissions .entry)) (phy .0) (source .0) i ⌝ }
@@ -123,14 +124,10 @@ fn is_told(phys: &[u8], permissions: &[u8], phy: PhyNumber, source: ZoneGroup, i
     if phys.len() / tables::PHY_RECORD <= i {
         return false;
     }
-    if phys[tables::PHY_RECORD * i + 2] % 2 == 0 {
-        return false;
-    }
-    if i == phy.0 as usize {
-        return false;
-    }
+    let ready = phys[tables::PHY_RECORD * i + 2] % 2 == 1;
+    let other = i != phy.0 as usize;
     let group = wire::group_of(phys[tables::PHY_RECORD * i + 1]);
-    permit::permitted(permissions, source, group)
+    ready & other & permit::permitted(permissions, source, group)
 }
 
 // Byte k of the set, from its highest bit down.

@@ -45,6 +45,7 @@ unfoldable pub routeCandidates : List ℕ → ℕ → ℕ → List Candidate
 routeCandidates routes i zero = []
 routeCandidates routes i (suc n) = routeCandidate routes i ++ routeCandidates routes (suc i) n
 
+-- "Candidates: ready phys and route records", in the order in which they are carried
 abbrev pub candidates : List ℕ → List ℕ → List Candidate
 candidates phys routes = phyCandidates phys 0 (phyCount phys) ++ routeCandidates routes 0 (routeCount routes)
 
@@ -65,6 +66,7 @@ best b (c ∷ cs) = best (better c b) cs
 abbrev pub nobody : Candidate
 nobody = record { priority = 0; address = 0 }
 
+-- "The best candidate so far is carried from the phy table into the route table"
 abbrev pub elected : List ℕ → List ℕ → Candidate
 elected phys routes = best nobody (candidates phys routes)
 

@@ -42,14 +42,17 @@ left phys phy = set phys (phyRecord * phy + 2) (phyByte phys phy 2 / 2 % 2 * 2)
 abbrev pub leavingOut : List ℕ → ℕ → Out
 leavingOut phys phy = outcome (firstRefusal (leavingChecks phys phy)) [] (phys ∷ []) (left phys phy ∷ [])
 
--- IDENTIFY: refusals 1, 2, 7 ("for IDENTIFY, already ready"), 5 ("IDENTIFY address zero")
-abbrev pub identifyChecks : List ℕ → ℕ → List ℕ → List Check
-identifyChecks phys phy address =
+-- IDENTIFY: refusals 1, 2, 7 ("for IDENTIFY, already ready")
+abbrev pub identifyFront : List ℕ → ℕ → List Check
+identifyFront phys phy =
     physSize phys
     ++ refuse 2 (atMost (phyCount phys) phy)
     ∷ refuse 7 (on (ready phys phy))
-    ∷ refuse 5 (same (addressAt address 0) 0)
     ∷ []
+
+-- and 5 ("IDENTIFY address zero")
+abbrev pub identifyChecks : List ℕ → ℕ → List ℕ → List Check
+identifyChecks phys phy address = identifyFront phys phy ++ refuse 5 (same (addressAt address 0) 0) ∷ []
 
 -- "If an address was known and differs"
 abbrev pub moved : List ℕ → ℕ → List ℕ → Bool

@@ -60,6 +60,7 @@ judge phys permissions phy frame (At p g) =
     cond (eqb (p .0) phy) BadDestination
     (cond (P 16 permissions (openSource phys phy frame) (g .0)) (Forward p) ZoneViolation)
 
+-- the outcome of an OPEN that is not refused
 abbrev pub opened : List ℕ → List ℕ → List ℕ → ℕ → List ℕ → Opened
 opened phys routes permissions phy frame = judge phys permissions phy frame (search phys routes frame)
 

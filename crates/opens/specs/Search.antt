@@ -20,6 +20,7 @@ unfoldable pub zeroBytes : ℕ → List ℕ → ℕ → Bool
 zeroBytes zero s i = true
 zeroBytes (suc n) s i = eqb (getD s (i + n) 0) 0 && zeroBytes n s i
 
+-- a phy and a group, found
 abbrev pub found : ℕ → ℕ → Found
 found phy group = At (record { 0 = phy }) (record { 0 = group })
 

@@ -102,18 +102,19 @@ pub low-kept : (w : ℕ) (os : List Order) → Valid w os → (t : List ℕ) →
 low-kept w os ok t hl c d hd h = P-apply w os (within w os ok) t hl c d hd ∙ latest-none os c d (P w t c d) (silent-low w os ok c d h)
 
 -- ---- demand 3, of the orders alone
+-- of two groups from 2 on, the latest order that names them
+pair-says : (w : ℕ) (os : List Order) → Valid w os → (c d : ℕ) → Zone w c → Zone w d → P w (apply w os (startTable w)) c d ≡ latest os c d false
+pair-says w os ok c d zc zd =
+    P-apply w os (within w os ok) (startTable w) (length-start w) c d (zd .1)
+    ∙ ap (latest os c d) (P-start w c d (zc .1) (zd .1) ∙ rw (ne-eqb c 1 (λ e. omega arith), ne-eqb d 1 (λ e. omega arith)))
+
 pub history : History
-history w os ok =
-    let t = startTable w in
-    let hl = length-start w in
-    let wi = within w os ok in
-    record {
-      bothWays = mutual-apply w os wi t hl (mutual-start w);
-      low = λ c d hc hd h. low-kept w os ok t hl c d hd h;
-      pairs = λ c d zc zd.
-          P-apply w os wi t hl c d (zd .1)
-          ∙ ap (latest os c d) (P-start w c d (zc .1) (zd .1) ∙ rw (ne-eqb c 1 (λ e. omega arith), ne-eqb d 1 (λ e. omega arith)));
-    }
+history w os ok = record {
+  bothWays = mutual-apply w os (within w os ok) (startTable w) (length-start w) (mutual-start w);
+  low = λ c d hc hd h. low-kept w os ok (startTable w) (length-start w) c d hd h;
+  pairs = pair-says w os ok;
+  unordered = λ c d zc zd s. pair-says w os ok c d zc zd ∙ latest-none os c d false s;
+}
 
 -- ---- a loop over a batch's rows: what is left to do, done to the table as it is, gives what the whole batch gives
 batch-step : (w : ℕ) (rows : List ℕ) (start i k : ℕ) (t : List ℕ) → i < k

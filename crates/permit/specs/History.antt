@@ -40,6 +40,7 @@ pub record Says (w : ℕ) (t : List ℕ) (os : List Order) : Type 0 where
   -- "for groups a, b from 2 to 127 permission is on exactly when the latest accepted order naming that pair, in either order, switched it
   -- on; with no order it is off"
   pub pairs : (c d : ℕ) → Zone w c → Zone w d → P w t c d ≡ latest os c d false
+  pub unordered : (c d : ℕ) → Zone w c → Zone w d → Silent os c d → P w t c d ≡ false
 
 -- demand 3, of the orders alone: after any list of orders from start-up
 abbrev pub History : Type 0

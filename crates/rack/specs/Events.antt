@@ -79,7 +79,7 @@ gives kind phy carried payload phys permissions =
 unfoldable pub eventGives : List ℕ → List ℕ → List ℕ → Given
 eventGives event phys permissions = gives (getD event 0 0) (getD event 1 0) (getD event 2 0) (drop 5 event) phys permissions
 
--- how many bytes the event at the front of `bytes` has: 0 where it is cut off
+-- how many bytes the event at the front of `bytes` has: 0 where it is cut off, or where there is none
 unfoldable pub eventLength : List ℕ → ℕ
 eventLength bytes =
     cond (ltb (length bytes) 5) 0

@@ -8,7 +8,8 @@ use Rattle.wire.specs.Groups.{outsideGroup}
 use Rattle.permit.specs.Permission.{P}
 use Rattle.tables.specs.Phys.{phyRecord, phyCount, phyGroup, participating, emptySet}
 
--- "on a participating phy, it is the group carried: .. for SMP the low 7 bits of a byte that the caller took from the connection's OPEN"
+-- "The source group .. of anything arriving on a phy that is not participating, is the phy record's group. For the rest, on a participating
+-- phy, it is the group carried: .. for SMP the low 7 bits of a byte that the caller took from the connection's OPEN"
 unfoldable pub smpSource : List ℕ → ℕ → ℕ → ℕ
 smpSource phys phy carried = cond (participating phys phy) (outsideGroup carried) (phyGroup phys phy)
 

@@ -5,6 +5,8 @@ use mathlib.Core.List.{List, [], _∷_, _++_}
 use Prim.Native.Nat.{ℕ, zero, suc, _+_}
 use native.Mathlib.Omega.{arith}
 use lib.ListN.{length, drop}
+use Rattle.wire.specs.Bits.{bit}
+use Rattle.wire.specs.PhySet.{member, tally, physIn}
 use Rattle.tables.specs.Outcome.{Answer, refusal, answer, Out, out, outcome}
 use Rattle.tables.specs.Phys.{emptySet}
 use Rattle.requests.specs.Requests.{Reply, turnedDown}
@@ -37,11 +39,18 @@ unfolding outcome
 gave zero values old new vs bs e = (cc, cc)
 gave (suc m) values old new vs bs e = let z : _≡_ {A = ℕ} 0 1 = cc in absurd (omega arith)
 
+none-told : physIn emptySet ≡ 0
+unfolding physIn tally member bit emptySet
+none-told = refl
+
 pub turned-down : TurnedDown
 unfolding outcomeOf
 turned-down phys t phy carried request response set result written told bs e h =
     let p = smpReply phys t phy carried request in
     let g = gave _ (valuesOf p) _ _ _ bs e in
     let r : p .result ≡ result = cc (g .0) in
-    let d : p ≡ turnedDown (p .result) phys t = down phys t phy carried request (λ z. h (sym r ∙ z)) in
-    g .1 ∙ ap (λ (q : Reply). buffersOf (functionOf request) q response set) (d ∙ ap (λ (k : ℕ). turnedDown k phys t) r)
+    let d : p ≡ turnedDown result phys t = down phys t phy carried request (λ z. h (sym r ∙ z)) ∙ ap (λ (k : ℕ). turnedDown k phys t) r in
+    let v : result ∷ 4 ∷ physIn emptySet ∷ [] ≡ result ∷ written ∷ told ∷ [] = sym (ap valuesOf d) ∙ g .0 in
+    let w : written ≡ 4 = cc v in
+    let n : told ≡ physIn emptySet = cc v in
+    (w, n ∙ none-told, g .1 ∙ ap (λ (q : Reply). buffersOf (functionOf request) q response set) d)

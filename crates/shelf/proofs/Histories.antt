@@ -30,9 +30,9 @@ use Rattle.opens.specs.Open.{valuesOf, openSource, opened, openOut}
 use Rattle.opens.proofs.OpenLaws as opens
 use Rattle.broadcasts.specs.Broadcasts.{toldSet, frameSource, primitiveOut, broadcastOut}
 use Rattle.broadcasts.proofs.BroadcastLaws as broadcasts
-use Rattle.smp.specs.Smp.{smpChecks, smpReply, smpOut, acceptedOrders, permissionsAfter}
-use Rattle.smp.proofs.SmpLaws.{orders-applied, orders-valid}
-use Rattle.shelf.specs.Calls.{Call, startUp, leaving, identify, elect, opening, primitive, broadcastFrame, smp, outcomeOf, bufferOf, after, accepted, kept, run, orders}
+use Rattle.smp.specs.Smp.{smpChecks, smpReply, smpOut, acceptedOrders}
+use Rattle.smp.proofs.SmpLaws.{permissionsAfter, orders-applied, orders-valid}
+use Rattle.shelf.specs.Calls.{Call, startUp, leaving, identify, elect, opening, primitive, broadcastFrame, smp, outcomeOf, answerOf, bufferOf, after, accepted, kept, run, orders}
 use Rattle.shelf.specs.Promises.{History, NoOpen, NoBroadcast}
 use Rattle.shelf.proofs.Answers.{gave}
 
@@ -69,10 +69,15 @@ start-table t e = rw (eq-eqb (length t) 2048 e)
 length-made : (t : List ℕ) (os : List Order) → Made t os → length t ≡ 2048
 length-made t os m = ap length (m .made) ∙ length-apply 16 os (startTable 16) ∙ length-start 16
 
--- one call
-step : (c : Call) (t : List ℕ) (os : List Order) → Made t os → Made (after c t) (kept c os ++ accepted c t)
+-- start-up of a table of its size begins the history afresh
+begins : (t : List ℕ) (os : List Order) → length t ≡ 2048 → Made (after startUp t) (kept startUp t os ++ accepted startUp t)
 unfolding after accepted kept outcomeOf apply
-step startUp t os m = record { made = start-table t (length-made t os m); valid = tt }
+begins t os e = rw (eq-eqb (length t) 2048 e) (record { made = start-table t e; valid = tt })
+
+-- one call
+step : (c : Call) (t : List ℕ) (os : List Order) → Made t os → Made (after c t) (kept c t os ++ accepted c t)
+unfolding after accepted kept outcomeOf apply
+step startUp t os m = begins t os (length-made t os m)
 step (leaving phys phy) t os m = nothing-more t os m
 step (identify phys phy address) t os m = nothing-more t os m
 step (elect phys routes) t os m = nothing-more t os m
@@ -93,12 +98,12 @@ step (smp phys phy carried request response set) t os m =
 runs : (cs : List Call) (t : List ℕ) (os : List Order) → Made t os → Made (run cs t) (orders cs t os)
 unfolding run orders
 runs [] t os m = m
-runs (c ∷ cs) t os m = runs cs (after c t) (kept c os ++ accepted c t) (step c t os m)
+runs (c ∷ cs) t os m = runs cs (after c t) (kept c t os ++ accepted c t) (step c t os m)
 
 -- a run that begins with a start-up
 begun : (t : List ℕ) (cs : List Call) → length t ≡ 2048 → Made (run (startUp ∷ cs) t) (orders (startUp ∷ cs) t [])
 unfolding run orders after accepted kept outcomeOf apply
-begun t cs e = runs cs _ [] (record { made = start-table t e; valid = tt })
+begun t cs e = runs cs _ _ (begins t [] e)
 
 pub any-run : History
 any-run t cs e =
@@ -111,14 +116,20 @@ off : (t : List ℕ) (cs : List Call) → length t ≡ 2048 → (a b : ℕ) → 
     → P 16 (run (startUp ∷ cs) t) a b ≡ false
 off t cs e a b za zb h = any-run t cs e .pairs a b za zb ∙ h
 
+-- an answer that is no refusal has the call's values
+answered : (m : ℕ) (vs ws : List ℕ) (old new : List (List ℕ)) → answerOf (outcome m vs old new) ≡ answer ws → vs ≡ ws
+unfolding outcome
+answered zero vs ws old new e = cc
+answered (suc m) vs ws old new e = let z : _≡_ {A = ℕ} 0 1 = cc in absurd (omega arith)
+
 pub no-open : NoOpen
-no-open t cs e phys routes phy frame buffer p g s za zb h q bs o =
-    forwards (opened phys routes (run (startUp ∷ cs) t) phy frame) refl (gave _ _ _ _ _ bs o .0)
+no-open t cs e phys routes phy frame buffer p g s za zb h q o =
+    forwards (opened phys routes (run (startUp ∷ cs) t) phy frame) refl (answered _ _ _ _ _ o)
   where
     stays : (x : PhyNumber) → opened phys routes (run (startUp ∷ cs) t) phy frame ≡ Forward x → ⊥
     stays = opens.barred phys routes (run (startUp ∷ cs) t) phy frame p g s (off t cs e (openSource phys phy frame) (g .0) za zb h)
 
-    forwards : (r : Opened) → opened phys routes (run (startUp ∷ cs) t) phy frame ≡ r → valuesOf r ≡ 4 ∷ q → ⊥
+    forwards : (r : Opened) → opened phys routes (run (startUp ∷ cs) t) phy frame ≡ r → valuesOf r ≡ 4 ∷ q .0 ∷ [] → ⊥
     forwards (Refused n) er ev = let z : _≡_ {A = ℕ} 0 1 = cc in omega arith
     forwards NoDestination er ev = let z : _≡_ {A = ℕ} 1 4 = cc in omega arith
     forwards BadDestination er ev = let z : _≡_ {A = ℕ} 2 4 = cc in omega arith

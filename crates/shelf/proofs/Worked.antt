@@ -1,4 +1,4 @@
--- Cases 1 to 12, each by computation.
+-- Cases 1 to 12, and that later rows and descriptors are handled too, each by computation.
 -- Assumes nothing.
 use mathlib.Core.Path.{refl}
 use Rattle.wire.specs.Address.{bigEndian, addressAt}
@@ -18,8 +18,11 @@ use Rattle.zone_permission.specs.ZonePermission.{operationChecks, ordersOf, per
 use Rattle.zone_report.specs.ZoneReport.{rowCount, rows, reportReply}
 use Rattle.smp.specs.Smp.{smpReply, lengthField}
 use Rattle.rack.specs.Rack.{rack, flat, rackTable}
-use Rattle.shelf.specs.Cases.{Cases, asks, fresh, single89, after1, opens2, changes2, phyZone, batch, rows89}
+use Rattle.shelf.specs.Cases.{Cases, LaterToo, asks, fresh, single89, after1, opens2, changes2, phyZone, batch, rows89}
 
-pub cases : Cases
+pub cases : Cases × LaterToo
 unfolding bigEndian addressAt bit setBit tab member bitsOf setByte setOf tally physIn apply rowOrders batchOrders place P setP setBoth startByte startTable outcome readySet emptySet zoned firstRefusal openSource judge byte20 sent sameBytes zeroBytes findPhy findRoute search told toldSet frameByte frameOf typedLength smpSource right replied sound allSound configured phyZoneReply operationChecks ordersOf permissionReply rowCount rows reportReply smpReply lengthField rack flat rackTable asks fresh single89 after1 opens2 changes2 phyZone batch rows89
-cases = (refl, (refl, refl), refl, refl, refl, refl, refl, refl, refl, refl, refl, refl, refl, refl, refl, refl, refl)
+cases = (
+  (refl, (refl, refl), refl, refl, refl, refl, refl, refl, refl, refl, refl, refl, refl, refl, (refl, refl), refl, refl, refl),
+  (refl, refl),
+)

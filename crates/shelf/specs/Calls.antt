@@ -1,6 +1,8 @@
 -- Every public call as data, with all that it is handed beside the permission table; and what a run of calls does to that table.
 use mathlib.Core.List.{List, [], _∷_, _++_}
 use Prim.Native.Nat.{ℕ}
+use mathlib.Core.Bool.{cond}
+use lib.Dec.{eqb}
 use lib.ListN.{length, getD}
 use Rattle.permit.specs.Orders.{Order}
 use Rattle.tables.specs.Outcome.{Answer, Out, out}
@@ -43,6 +45,7 @@ handedIn (primitive phys phy number set frame) t = set ∷ frame ∷ []
 handedIn (broadcastFrame phys phy arrived set frame) t = set ∷ frame ∷ []
 handedIn (smp phys phy carried request response set) t = phys ∷ t ∷ response ∷ set ∷ []
 
+-- the answer alone
 abbrev pub answerOf : Out → Answer
 answerOf (out a bs) = a
 
@@ -72,16 +75,17 @@ accepted (opening phys routes phy frame buffer) t = []
 accepted (primitive phys phy number set frame) t = []
 accepted (broadcastFrame phys phy arrived set frame) t = []
 
--- "A restart begins the history afresh."
-unfoldable pub kept : Call → List Order → List Order
-kept startUp os = []
-kept (leaving phys phy) os = os
-kept (identify phys phy address) os = os
-kept (elect phys routes) os = os
-kept (opening phys routes phy frame buffer) os = os
-kept (primitive phys phy number set frame) os = os
-kept (broadcastFrame phys phy arrived set frame) os = os
-kept (smp phys phy carried request response set) os = os
+-- "A restart begins the history afresh.": what is kept of the orders os as the call starts, lent the table t. A start-up that is refused (the
+-- table has not its size) is none.
+unfoldable pub kept : Call → List ℕ → List Order → List Order
+kept startUp t os = cond (eqb (length t) 2048) [] os
+kept (leaving phys phy) t os = os
+kept (identify phys phy address) t os = os
+kept (elect phys routes) t os = os
+kept (opening phys routes phy frame buffer) t os = os
+kept (primitive phys phy number set frame) t os = os
+kept (broadcastFrame phys phy arrived set frame) t os = os
+kept (smp phys phy carried request response set) t os = os
 
 -- "while each call is lent the same permission table and only this software writes it": the table after a run of calls
 unfoldable pub run : List Call → List ℕ → List ℕ
@@ -91,4 +95,4 @@ run (c ∷ cs) t = run cs (after c t)
 -- the orders accepted since the latest start-up, where os were before the run
 unfoldable pub orders : List Call → List ℕ → List Order → List Order
 orders [] t os = os
-orders (c ∷ cs) t os = orders cs (after c t) (kept c os ++ accepted c t)
+orders (c ∷ cs) t os = orders cs (after c t) (kept c t os ++ accepted c t)

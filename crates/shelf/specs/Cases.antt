@@ -3,7 +3,7 @@ use mathlib.Core.Path.{_≡_}
 use mathlib.Core.Bool.{true, false}
 use mathlib.Core.List.{List, [], _∷_, _++_}
 use Prim.Native.Nat.{ℕ}
-use lib.ListN.{getD, take, replicate}
+use lib.ListN.{getD, take, drop, replicate}
 use Rattle.permit.specs.Permission.{P, startTable}
 use Rattle.tables.specs.Outcome.{answer, Out}
 use Rattle.opens.specs.Open.{openOut}
@@ -28,7 +28,7 @@ single89 = 0x40 ∷ 0xc1 ∷ 0 ∷ 2 ∷ 0 ∷ 0 ∷ 8 ∷ 0x89 ∷ 0 ∷ 0x81 �
 unfoldable pub after1 : List ℕ
 after1 = bufferOf 1 (fresh single89)
 
--- an OPEN from phy 2 to the address of phy i
+-- an OPEN from phy 2 to the address that ends in `last`
 unfoldable pub opens2 : ℕ → Out
 opens2 last =
     openOut rackTable [] after1 2
@@ -62,6 +62,7 @@ Cases =
     × (answerOf (asks after1 2 single89) ≡ answer (0x01 ∷ 4 ∷ 0 ∷ []))
     -- (6) "93h, phy 0, start 7, k 1 with 00 09: 00h; start 8, k 0: 00h; (7) start 8, k 1: 10h."
     × (answerOf (fresh (phyZone 2 7 1 (0 ∷ 9 ∷ 0 ∷ 0 ∷ []))) ≡ answer (0x00 ∷ 4 ∷ 8 ∷ []))
+    × (take 2 (drop 84 (bufferOf 0 (fresh (phyZone 2 7 1 (0 ∷ 9 ∷ 0 ∷ 0 ∷ []))))) ≡ 0 ∷ 9 ∷ [])
     × (answerOf (fresh (phyZone 1 8 0 [])) ≡ answer (0x00 ∷ 4 ∷ 8 ∷ []))
     × (answerOf (fresh (phyZone 2 8 1 (0 ∷ 9 ∷ 0 ∷ 0 ∷ []))) ≡ answer (0x10 ∷ 4 ∷ 0 ∷ []))
     -- "(8) Batch from phy 0, start 127, k 1: 00h; (9) start 128, k 1: 11h."
@@ -69,9 +70,16 @@ Cases =
     × (answerOf (fresh (batch 6 128 1 (replicate 16 0))) ≡ answer (0x11 ∷ 4 ∷ 0 ∷ []))
     -- "(10) Rows 8 and 9, 8 saying 9 on, 9 saying 8 off: off."
     × (answerOf (fresh rows89) ≡ answer (0x00 ∷ 4 ∷ 0 ∷ []))
-    × (P 16 (bufferOf 1 (fresh rows89)) 8 9 ≡ false)
+    × ((P 16 (bufferOf 1 (fresh rows89)) 8 9 ≡ false) × (P 16 (bufferOf 1 (fresh rows89)) 9 8 ≡ false))
     -- "(11) Report from 127, 5 rows: one row, byte 3 is 6."
     × (answerOf (fresh (0x40 ∷ 0x51 ∷ 0 ∷ 1 ∷ 0 ∷ 0 ∷ 127 ∷ 5 ∷ [])) ≡ answer (0x00 ∷ 28 ∷ 0 ∷ []))
     × (take 8 (bufferOf 2 (fresh (0x40 ∷ 0x51 ∷ 0 ∷ 1 ∷ 0 ∷ 0 ∷ 127 ∷ 5 ∷ []))) ≡ 0x41 ∷ 0x51 ∷ 0 ∷ 6 ∷ 0 ∷ 0 ∷ 127 ∷ 1 ∷ [])
     -- "(12) Single 1, 8: 02h."
     × (answerOf (fresh (0x40 ∷ 0xc1 ∷ 0 ∷ 2 ∷ 0 ∷ 0 ∷ 1 ∷ 0x88 ∷ 0 ∷ 0x81 ∷ 0 ∷ 0 ∷ [])) ≡ answer (0x02 ∷ 4 ∷ 0 ∷ []))
+
+-- Shut out by name: "handling the first batch row or descriptor and only reporting the rest". Of rows 8 and 9 the second says 10 on; of the
+-- descriptors for phys 1 and 2 the second says group 4.
+abbrev pub LaterToo : Type 0
+LaterToo =
+    (P 16 (bufferOf 1 (fresh (batch 10 8 2 (replicate 16 0 ++ replicate 14 0 ++ 4 ∷ 0 ∷ [])))) 9 10 ≡ true)
+    × (take 2 (drop 24 (bufferOf 0 (fresh (phyZone 2 1 2 (0 ∷ 3 ∷ 0 ∷ 4 ∷ []))))) ≡ 0 ∷ 4 ∷ [])

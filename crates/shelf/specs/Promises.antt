@@ -1,5 +1,6 @@
 -- What is promised. The proofs are in proofs/: Answers.antt (Refusals, TurnedDown), Exactly.antt (ExactlyOne), Worked.antt (Cases, whose rows
--- are in Cases.antt), Histories.antt (History, NoOpen, NoBroadcast) and Shut.antt (ShutOut).
+-- are in Cases.antt, and LaterToo), Histories.antt (History, NoOpen, NoBroadcast) and Shut.antt (Counted, Supervisor, ShutOut). Quotes are of
+-- the three demands, docs/PROMISES.md, and of document 01.
 use mathlib.Core.Path.{_≡_}
 use mathlib.Core.Bool.{Bool, true, false}
 use mathlib.Core.Logic.{_⊎_}
@@ -13,13 +14,14 @@ use Rattle.permit.specs.History.{Zone, latest, Says}
 use Rattle.tables.specs.Outcome.{Answer, refusal, answer, Out, out}
 use Rattle.tables.specs.Phys.{phyGroup, emptySet}
 use Rattle.links.specs.Links.{linkedAs}
-use Rattle.election.specs.Election.{electedAs}
+use Rattle.election.specs.Election.{electedAs, candidates, elected, Greatest}
 use Rattle.opens.specs.declared.Found.the-variants.{At}
+use Rattle.opens.specs.declared.Opened.the-variants.{Forward}
 use Rattle.opens.specs.Search.{search}
 use Rattle.opens.specs.Open.{openedAs, openSource, openOut}
-use Rattle.broadcasts.specs.Broadcasts.{toldAs, toldSet, frameSource, primitiveOut, broadcastOut}
+use Rattle.broadcasts.specs.Broadcasts.{toldAs, frameSource, primitiveOut, broadcastOut}
 use Rattle.smp.specs.Smp.{answeredAs, functionOf}
-use Rattle.shelf.specs.Calls.{Call, startUp, smp, outcomeOf, handedIn, answerOf, after, run, orders}
+use Rattle.shelf.specs.Calls.{Call, startUp, primitive, broadcastFrame, smp, outcomeOf, handedIn, answerOf, after, run, orders}
 
 -- ---- Answers
 
@@ -32,7 +34,8 @@ abbrev pub TurnedDown : Type 0
 TurnedDown =
     (phys t : List ℕ) (phy carried : ℕ) (request response set : List ℕ) (result written told : ℕ) (bs : List (List ℕ))
     → outcomeOf (smp phys phy carried request response set) t ≡ out (answer (result ∷ written ∷ told ∷ [])) bs → (result ≡ 0 → ⊥)
-    → bs ≡ phys ∷ t ∷ ((0x41 ∷ functionOf request ∷ result ∷ 0 ∷ []) ++ drop 4 response) ∷ (emptySet ++ drop 16 set) ∷ []
+    → (written ≡ 4) × (told ≡ 0)
+    × (bs ≡ phys ∷ t ∷ ((0x41 ∷ functionOf request ∷ result ∷ 0 ∷ []) ++ drop 4 response) ∷ (emptySet ++ drop 16 set) ∷ [])
 
 -- ---- Exactly one
 
@@ -53,14 +56,14 @@ History = (t : List ℕ) (cs : List Call) → length t ≡ 2048 → Says 16 (run
 
 -- ---- Isolation: "So without one", at any point of any run, where the latest order naming a and b, if any, did not switch them on
 
--- "no OPEN from a is forwarded to destination group b": outcome 4 is forward
+-- "no OPEN from a is forwarded to destination group b"
 abbrev pub NoOpen : Type 0
 NoOpen =
     (t : List ℕ) (cs : List Call) → length t ≡ 2048
     → (phys routes : List ℕ) (phy : ℕ) (frame buffer : List ℕ) (p : PhyNumber) (g : ZoneGroup) → search phys routes frame ≡ At p g
     → Zone 16 (openSource phys phy frame) → Zone 16 (g .0)
     → latest (orders (startUp ∷ cs) t []) (openSource phys phy frame) (g .0) false ≡ false
-    → (q : List ℕ) (bs : List (List ℕ)) → openOut phys routes (run (startUp ∷ cs) t) phy frame buffer ≡ out (answer (4 ∷ q)) bs → ⊥
+    → (q : PhyNumber) → answerOf (openOut phys routes (run (startUp ∷ cs) t) phy frame buffer) ≡ openedAs (Forward q) → ⊥
 
 -- "no incoming broadcast from a goes to a phy of b": buffer 0 of both calls is the phy set
 abbrev pub NoBroadcast : Type 0
@@ -73,16 +76,33 @@ NoBroadcast =
     ⊎ ((source ≡ frameSource arrived) × (broadcastOut phys (run (startUp ∷ cs) t) phy arrived set frame ≡ out (answer v) bs))
     → member (getD bs 0 []) i ≡ false
 
--- ---- Shut out by name: programs that meet no contract
+-- ---- The count
 
+-- "the count is the number of ones in the sixteen bytes": of the phy set that the same call leaves
+abbrev pub Counted : Type 0
+Counted =
+    ((phys t : List ℕ) (phy number : ℕ) (set frame : List ℕ) (n : ℕ) (bs : List (List ℕ))
+    → outcomeOf (primitive phys phy number set frame) t ≡ out (answer (n ∷ [])) bs → n ≡ physIn (getD bs 0 []))
+    × ((phys t : List ℕ) (phy : ℕ) (arrived set frame : List ℕ) (n : ℕ) (bs : List (List ℕ))
+    → outcomeOf (broadcastFrame phys phy arrived set frame) t ≡ out (answer (n ∷ [])) bs → n ≡ physIn (getD bs 0 []))
+    × ((phys t : List ℕ) (phy carried : ℕ) (request response set : List ℕ) (result written n : ℕ) (bs : List (List ℕ))
+    → outcomeOf (smp phys phy carried request response set) t ≡ out (answer (result ∷ written ∷ n ∷ [])) bs → n ≡ physIn (getD bs 3 []))
+
+-- ---- The supervisor: "higher priority wins, then the greater address"
+abbrev pub Supervisor : Type 0
+Supervisor = (phys routes : List ℕ) → Greatest (elected phys routes) (candidates phys routes)
+
+-- ---- Shut out by name: what no program that meets the contracts does
+
+-- an answer is a numbered refusal
 abbrev pub refused : Answer → Bool
 refused (refusal n) = true
 refused (answer values) = false
 
--- refusing every call; one answer for all; changing nothing; a made-up phy count, the same for every set
+-- refusing every call; one answer for all; changing nothing
 abbrev pub ShutOut : Type 0
 ShutOut =
     (((c : Call) (t : List ℕ) → refused (answerOf (outcomeOf c t)) ≡ true) → ⊥)
-    × ((a : Answer) → ((c : Call) (t : List ℕ) → answerOf (outcomeOf c t) ≡ a) → ⊥)
+    × ((a : Answer) → ((phys t : List ℕ) (phy carried : ℕ) (request response set : List ℕ)
+    → answerOf (outcomeOf (smp phys phy carried request response set) t) ≡ a) → ⊥)
     × (((c : Call) (t : List ℕ) → after c t ≡ t) → ⊥)
-    × ((n : ℕ) → ((phys t : List ℕ) (phy source : ℕ) → physIn (toldSet phys t phy source) ≡ n) → ⊥)

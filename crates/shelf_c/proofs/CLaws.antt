@@ -12,13 +12,13 @@ use Rattle.tables.specs.Refusals.{Check, refuse, below, atMost, same, differ, o
 use Rattle.tables.specs.Outcome.{Answer, refusal, out, outcome}
 use Rattle.tables.specs.Phys.{phyCount, physSize, participating, ready}
 use Rattle.tables.proofs.RefusalLaws.{clear, front, skipped}
-use Rattle.links.specs.Links.{leavingOut, identifyChecks, identifyOut, identified}
+use Rattle.links.specs.Links.{leavingOut, identifyChecks, identifyOut, identified, identifyFront}
 use Rattle.opens.specs.Open.{tableChecks, openOut}
 use Rattle.broadcasts.specs.Broadcasts.{arrivalChecks, typeOf, typedLength, primitiveOut, broadcastOut}
 use Rattle.zone_report.proofs.ReportLaws.{report-dwords-most}
-use Rattle.smp.specs.Smp.{functionOf, smpReply, lengthField, smpChecks, smpOut, valuesOf, buffersOf}
+use Rattle.smp.specs.Smp.{functionOf, smpReply, lengthField, smpChecks, smpOut, valuesOf, buffersOf, smpFront}
 use Rattle.smp.proofs.SmpLaws.{field-51, field-none}
-use Rattle.shelf_c.specs.C.{given, fields, inC, orElse, identifyFront, identifyOutC, smpFront, smpOutC}
+use Rattle.shelf_c.specs.C.{given, fields, inC, orElse, identifyOutC, smpOutC}
 use Rattle.shelf_c.proofs.Crossing.{crosses, stops, stopped, behind, clamped}
 
 -- ---- leaving

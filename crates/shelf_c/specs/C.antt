@@ -1,13 +1,12 @@
 -- What C gets. Document 01's outcomes in the fields of include/shelf.h; the quotes are of that header.
 use mathlib.Core.List.{List, [], _∷_, _++_}
 use Prim.Native.Nat.{ℕ, zero, suc}
-use lib.ListN.{length, getD}
+use lib.ListN.{length}
 use Rattle.wire.specs.Address.{addressAt}
-use Rattle.tables.specs.Refusals.{Check, refuse, below, atMost, same, differ, off, on, firstRefusal}
+use Rattle.tables.specs.Refusals.{Check, refuse, below, same, differ, firstRefusal}
 use Rattle.tables.specs.Outcome.{Answer, refusal, answer, Out, out, outcome}
-use Rattle.tables.specs.Phys.{phyCount, physSize, ready}
-use Rattle.links.specs.Links.{identified}
-use Rattle.smp.specs.Smp.{functionOf, smpReply, lengthField, valuesOf, buffersOf}
+use Rattle.links.specs.Links.{identifyFront, identified}
+use Rattle.smp.specs.Smp.{functionOf, smpFront, smpReply, lengthField, valuesOf, buffersOf}
 use Rattle.shelf_c.specs.declared.ShelfElected.{ShelfElected}
 use Rattle.shelf_c.specs.declared.ShelfOpened.{ShelfOpened}
 use Rattle.shelf_c.specs.declared.ShelfTold.{ShelfTold}
@@ -50,15 +49,8 @@ unfoldable pub orElse : ℕ → ℕ → ℕ
 orElse zero own = own
 orElse (suc n) own = suc n
 
--- IDENTIFY "Refusals: 1, 2, 7 (already ready), 4 (address_len is not 8), 5 (address zero)": the first three are document 01's,
--- which has no other length
-abbrev pub identifyFront : List ℕ → ℕ → List Check
-identifyFront phys phy =
-    physSize phys
-    ++ refuse 2 (atMost (phyCount phys) phy)
-    ∷ refuse 7 (on (ready phys phy))
-    ∷ []
-
+-- IDENTIFY "Refusals: 1, 2, 7 (already ready), 4 (address_len is not 8), 5 (address zero)": the first three are document 01's, which has no
+-- other length
 abbrev pub identifyChecksC : List ℕ → ℕ → List ℕ → List Check
 identifyChecksC phys phy address =
     identifyFront phys phy
@@ -69,19 +61,6 @@ identifyChecksC phys phy address =
 abbrev pub identifyOutC : List ℕ → ℕ → List ℕ → Out
 identifyOutC phys phy address =
     outcome (firstRefusal (identifyChecksC phys phy address)) [] (phys ∷ []) (identified phys phy address ∷ [])
-
--- SMP "Refusals: 1, 2, 3 (response_len under 1,020 or set_len under 16), 7, 4, 5, 8": document 01's up to 5
-abbrev pub smpFront : List ℕ → List ℕ → ℕ → List ℕ → ℕ → ℕ → List Check
-smpFront phys permissions phy request room space =
-    physSize phys
-    ++ refuse 1 (differ (length permissions) 2048)
-    ∷ refuse 2 (atMost (phyCount phys) phy)
-    ∷ refuse 3 (below room 1020)
-    ∷ refuse 3 (below space 16)
-    ∷ refuse 7 (off (ready phys phy))
-    ∷ refuse 4 (below (length request) 4)
-    ∷ refuse 5 (differ (getD request 0 0) 0x40)
-    ∷ []
 
 -- "carried 256 or more is no byte: refused as 5, after the other causes of 5"
 abbrev pub smpChecksC : List ℕ → List ℕ → ℕ → ℕ → List ℕ → ℕ → ℕ → List Check

@@ -9,14 +9,15 @@ ghost use mathlib.Core.Path.{_≡_};
 ghost use mathlib.Core.List.{[], _∷_};
 ghost use Prim.Native.Nat.{min};
 ghost use lib.ListN.{length};
-ghost use Rattle.links.specs.Links.{linkedAs, startUpOut, leavingOut};
+ghost use Rattle.links.specs.Links.{linkedAs, startUpOut, leavingOut, identifyFront};
 ghost use Rattle.election.specs.Election.{electedAs, electOut};
 ghost use Rattle.opens.specs.Open.{openedAs, openOut};
 ghost use Rattle.broadcasts.specs.Broadcasts.{toldAs, primitiveOut, broadcastOut};
 ghost use Rattle.smp.specs.Smp.{answeredAs};
 ghost use Rattle.tables.specs.Refusals.{firstRefusal};
-ghost use Rattle.shelf_c.specs.C.{given, fields, inC, orElse, electedFields, openedFields, toldFields, answeredFields, identifyFront, identifyOutC, smpOutC};
+ghost use Rattle.shelf_c.specs.C.{given, fields, inC, orElse, electedFields, openedFields, toldFields, answeredFields, identifyOutC, smpOutC};
 
+// The answers' fields stand in the header's order: C reads them by place.
 #[repr(C)]
 pub struct ShelfElected {
     pub refusal: u32,
@@ -203,6 +204,7 @@ fn early_refusal(phys: &[u8], phy: PhyNumber) -> u8
     links::identify_refusal(phys, phy, &some)
 }
 
+// The library takes eight bytes. Another length is refused as 4, but only after what the header puts before it.
 #[no_mangle]
 pub extern "C" fn shelf_identify(phys: &mut [u8], phy: u32, address: &[u8]) -> u32
     ensures { λ r. ⌜ given (r ∷ []) (now (phys .exit) ∷ []) ≡ inC 0 (identifyOutC (now (phys .entry)) phy (now (address .entry))) ⌝ }
@@ -264,6 +266,8 @@ pub extern "C" fn shelf_broadcast_frame(
     told_c(broadcasts::broadcast_frame(phys, permissions, phy_of(phy), arrived, set, frame))
 }
 
+// `carried` is not clamped: 255 would name a group. A wider number is refused after every other cause; the byte that the checks get in
+// its place decides none of them.
 #[no_mangle]
 pub extern "C" fn shelf_smp(
     phys: &mut [u8],

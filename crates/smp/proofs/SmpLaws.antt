@@ -23,7 +23,7 @@ use Rattle.phy_zone.specs.PhyZone.{phyZoneChecks, phyZoneReply}
 use Rattle.zone_permission.specs.ZonePermission.{permissionChecks, permissionSet, permissionReply, ordersOf}
 use Rattle.zone_permission.proofs.PermissionLaws.{accepted, valid-orders}
 use Rattle.zone_report.specs.ZoneReport.{reportReply}
-use Rattle.smp.specs.Smp.{functionOf, smpReply, lengthField, smpChecks, valuesOf, buffersOf, smpOut, acceptedOrders, permissionsAfter}
+use Rattle.smp.specs.Smp.{functionOf, smpReply, lengthField, smpChecks, valuesOf, buffersOf, smpOut, acceptedOrders}
 
 -- ---- the rule that the function byte picks
 module _ (phys permissions : List ℕ) (phy carried : ℕ) (request : List ℕ) where
@@ -179,6 +179,13 @@ smp-gives phys permissions phy carried request response set r n result written c
 
     buffers : {a b c d f g h k : List ℕ} → a ≡ b → c ≡ d → f ≡ g → h ≡ k → _≡_ {A = List (List ℕ)} (a ∷ c ∷ f ∷ h ∷ []) (b ∷ d ∷ g ∷ k ∷ [])
     buffers p q t u = cc
+
+-- the permission table after the call
+unfoldable pub permissionsAfter : List ℕ → List ℕ → ℕ → ℕ → List ℕ → ℕ → ℕ → List ℕ
+permissionsAfter phys permissions phy carried request room space =
+    cond (eqb (firstRefusal (smpChecks phys permissions phy carried request room space)) 0)
+    ((smpReply phys permissions phy carried request) .permissions)
+    permissions
 
 -- ---- the orders that the call accepts
 -- a reply whose permission table is the one handed in, whatever its result

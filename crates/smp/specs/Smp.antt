@@ -1,5 +1,5 @@
 -- "SMP": "After the refusals, the function byte picks one of three rules; any other byte answers 01h."
-use mathlib.Core.Bool.{Bool, cond, _&&_}
+use mathlib.Core.Bool.{cond, _&&_}
 use mathlib.Core.List.{List, [], _∷_, _++_}
 use Prim.Native.Nat.{ℕ, _+_, _/_}
 use lib.Dec.{eqb}
@@ -21,6 +21,7 @@ abbrev pub answeredAs : Answered → Answer
 answeredAs (Refused n) = refusal n
 answeredAs (Replied result written told) = answer (result ∷ written ∷ told ∷ [])
 
+-- a request's function byte
 abbrev pub functionOf : List ℕ → ℕ
 functionOf request = getD request 1 0
 
@@ -36,9 +37,9 @@ smpReply phys permissions phy carried request =
 unfoldable pub lengthField : List ℕ → List ℕ → ℕ → ℕ → List ℕ → ℕ
 lengthField phys permissions phy carried request = length ((smpReply phys permissions phy carried request) .rest) / 4
 
--- refusals 1, 2, 3, 7, 4 ("SMP under 4"), 5 ("SMP byte 0 not 40h"), 8; `room` is the response buffer's size, `space` the phy set's
-abbrev pub smpChecks : List ℕ → List ℕ → ℕ → ℕ → List ℕ → ℕ → ℕ → List Check
-smpChecks phys permissions phy carried request room space =
+-- refusals 1, 2, 3, 7, 4 ("SMP under 4"), 5 ("SMP byte 0 not 40h"); `room` is the response buffer's size, `space` the phy set's
+abbrev pub smpFront : List ℕ → List ℕ → ℕ → List ℕ → ℕ → ℕ → List Check
+smpFront phys permissions phy request room space =
     physSize phys
     ++ refuse 1 (differ (length permissions) 2048)
     ∷ refuse 2 (atMost (phyCount phys) phy)
@@ -47,7 +48,13 @@ smpChecks phys permissions phy carried request room space =
     ∷ refuse 7 (off (ready phys phy))
     ∷ refuse 4 (below (length request) 4)
     ∷ refuse 5 (differ (getD request 0 0) 0x40)
-    ∷ refuse 8 (below 255 (lengthField phys permissions phy carried request))
+    ∷ []
+
+-- and 8
+abbrev pub smpChecks : List ℕ → List ℕ → ℕ → ℕ → List ℕ → ℕ → ℕ → List Check
+smpChecks phys permissions phy carried request room space =
+    smpFront phys permissions phy request room space
+    ++ refuse 8 (below 255 (lengthField phys permissions phy carried request))
     ∷ []
 
 -- what a reply leaves of the call: its values, and the buffers: phy table, permission table, response, phy set
@@ -72,10 +79,3 @@ acceptedOrders phys permissions phy carried request room space =
     && (eqb (functionOf request) 0xc1 && eqb ((smpReply phys permissions phy carried request) .result) 0x00))
     (ordersOf request)
     []
-
--- the permission table after the call
-unfoldable pub permissionsAfter : List ℕ → List ℕ → ℕ → ℕ → List ℕ → ℕ → ℕ → List ℕ
-permissionsAfter phys permissions phy carried request room space =
-    cond (eqb (firstRefusal (smpChecks phys permissions phy carried request room space)) 0)
-    ((smpReply phys permissions phy carried request) .permissions)
-    permissions

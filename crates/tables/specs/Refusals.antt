@@ -14,6 +14,7 @@ pub data Test : Type 0 where
   off : Bool → Test
   on : Bool → Test
 
+-- whether a test holds
 abbrev pub holds : Test → Bool
 holds (below a b) = ltb a b
 holds (atMost a b) = leb a b

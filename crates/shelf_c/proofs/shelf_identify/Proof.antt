@@ -1,5 +1,8 @@
 -- `shelf_c::shelf_identify` meets its contract.
 -- Assumes nothing.
+use mathlib.Core.Path.{_≡_}
+use native.Mathlib.Omega.{arith}
+use lib.ListN.{length}
 use Rattle.shelf_c.proofs.CLaws.{identify-short, identify-whole}
 use borrow.Author.Needs.{needs}
 use Rattle.shelf_c.proofs.shelf_identify.Statement.{statement}
@@ -21,7 +24,7 @@ same-length : tie.Need-same-length
 same-length c = search needs
 
 returns : tie.Need-returns
-returns c = search identify-short
+returns c = let h : length (c .before .before .before .before .before .before .before .before .args .address .now) ≡ 8 → ⊥ = λ e. omega arith in search identify-short
 
 eight-requires : tie.Need-eight-requires
 eight-requires c κs = search needs

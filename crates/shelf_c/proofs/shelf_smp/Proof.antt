@@ -1,5 +1,7 @@
 -- `shelf_c::shelf_smp` meets its contract.
 -- Assumes nothing.
+use Prim.Native.Nat.{_<_}
+use native.Mathlib.Omega.{arith}
 use Rattle.shelf_c.proofs.CLaws.{smp-wide, smp-byte}
 use borrow.Author.Needs.{needs}
 use Rattle.shelf_c.proofs.shelf_smp.Statement.{statement}
@@ -24,7 +26,7 @@ same-length-2 : tie.Need-same-length-2
 same-length-2 c = search needs
 
 returns : tie.Need-returns
-returns c = search smp-wide
+returns c = let h : 255 < c .before .before .before .before .before .before .before .before .before .before .before .before .args .carried = omega arith in search smp-wide
 
 cast-smp : tie.Need-cast-smp
 cast-smp c = search needs

@@ -15,7 +15,7 @@ use lib.Arith.{digits-lt, digits-div, digits-mod}
 use lib.Seq.{getD-set-same, getD-set-other, set-out, ext-getD}
 use Rattle.wire.specs.Bits.{bit, setBit, tab}
 use Rattle.wire.proofs.BitLaws.{each8, eqb-num, bit-same, bit-other, bit-fits}
-use Rattle.wire.proofs.Loops.{length-tab, getD-tab, Filled, fill-again, fill-end}
+use Rattle.wire.proofs.Loops.{length-tab, getD-tab}
 use Rattle.permit.specs.Permission.{groups, tableSize, place, P, setP, setBoth, startByte, startTable}
 use Rattle.permit.specs.History.{names}
 use Rattle.permit.specs.Rows.{Masked}
@@ -233,15 +233,3 @@ P-start w a b ha hb =
 
 pub mutual-start : (w : ℕ) → Mutual w (startTable w)
 mutual-start w c d hc hd = P-start w c d hc hd ∙ or-comm (eqb c 1) (eqb d 1) ∙ sym (P-start w d c hd hc)
-
--- the loop that fills it
-pub start-again : (w : ℕ) (s₀ s : List ℕ) (i x : ℕ) → length s₀ ≡ tableSize w → i < tableSize w → x ≡ startByte w i
-    → Filled (startByte w) (tableSize w) s₀ s i → Filled (startByte w) (tableSize w) s₀ (set s i x) (i + 1)
-start-again w s₀ s i x hl h e r = fill-again (startByte w) (tableSize w) s₀ s i x (omega arith) h e r
-
-pub start-done : (w : ℕ) (s₀ s : List ℕ) (i : ℕ) → length s₀ ≡ tableSize w → tableSize w ≤ i → Filled (startByte w) (tableSize w) s₀ s i
-    → s ≡ startTable w
-unfolding startTable
-start-done w s₀ s i hl h r =
-    fill-end (startByte w) (tableSize w) s₀ s i h r
-    ∙ rw (drop-of-length-le s₀ {i = tableSize w} (omega arith)) (append-nil (tab (startByte w) 0 (tableSize w)))

@@ -4,3 +4,4 @@ pub mod HistoryLaws
 pub mod BatchLaws
 pub mod Copies
 pub mod RowLaws
+pub mod StartLaws

@@ -1,6 +1,6 @@
 -- A batch row written by bytes, and its column by bits, are the row's orders, for any row width up to a request row's sixteen bytes.
 -- Assumes nothing.
-use mathlib.Core.Path.{_≡_, refl, sym, ap, _∙_}
+use mathlib.Core.Path.{_≡_, refl, sym, ap, _∙_, subst}
 use mathlib.Core.Bool.{Bool, true, false, cond, _&&_}
 use mathlib.Core.List.{List}
 use Prim.Native.Nat.{ℕ, zero, suc, _+_, _-_, _*_, _/_, _%_, _^_, _≤_, _<_}
@@ -16,7 +16,7 @@ use Rattle.wire.proofs.BitLaws.{each8}
 use Rattle.permit.specs.Permission.{groups, tableSize, place, P, setP}
 use Rattle.permit.specs.Orders.{Order, apply, rowOrders}
 use Rattle.permit.specs.History.{latest}
-use Rattle.permit.specs.Rows.{Masked, RowIs, ColumnIs}
+use Rattle.permit.specs.Rows.{Masked, RowIs, ColumnIs, ColumnTo, byteHas}
 use Rattle.permit.proofs.Laws.{set-masked, P-set, length-setP, Bytes, table-ext}
 use Rattle.permit.proofs.HistoryLaws.{Within, P-apply, length-apply, bytes-apply, latest-swap}
 use Rattle.permit.proofs.BatchLaws.{row-hit, row-past, row-away}
@@ -176,45 +176,38 @@ module _ (w : ℕ) (t rows : List ℕ) (i r from : ℕ) (narrow : w ≤ 16) (hl 
         says = λ c d hc hd. go c d hc hd (ℕ-discrete c r) (decLt d 8);
       }
 
--- ---- the loop that writes the column
-pub record ColumnTo (w : ℕ) (f : ℕ → Bool) (r : ℕ) (t u : List ℕ) (j : ℕ) : Type 0 where
-  pub from : 2 ≤ j
-  pub upTo : j ≤ groups w
-  pub whole : length u ≡ tableSize w
-  pub sized : length u ≡ length t
-  pub says : (c d : ℕ) → c < groups w → d < groups w → P w u c d ≡ cond (eqb d r && (leb 2 c && ltb c j)) (f c) (P w t c d)
-
-module _ (w : ℕ) (f : ℕ → Bool) (r : ℕ) where
-  pub column-start : (t : List ℕ) → length t ≡ tableSize w → r < groups w → ColumnTo w f r t t 2
+-- ---- the loops that write the column
+module _ (w : ℕ) (f : ℕ → Bool) (r lo : ℕ) where
+  pub column-start : (t : List ℕ) → length t ≡ tableSize w → lo ≤ groups w → ColumnTo w f r lo t t lo
   column-start t l h = record {
     from = omega arith;
-    upTo = omega arith;
+    upTo = h;
     whole = l;
     sized = refl;
-    says = λ c d hc hd. none c (decLt c 2) (eqb d r) (f c) (P w t c d);
+    says = λ c d hc hd. none c (decLt c lo) (eqb d r) (f c) (P w t c d);
   }
     where
-      none : (c : ℕ) → Dec (c < 2) → (p y x : Bool) → x ≡ cond (p && (leb 2 c && ltb c 2)) y x
-      none c (yes l) true y x = rw (lt-leb 2 c l)
-      none c (no l) true y x = rw (le-leb 2 c (omega arith), le-ltb c 2 (omega arith))
+      none : (c : ℕ) → Dec (c < lo) → (p y x : Bool) → x ≡ cond (p && (leb lo c && ltb c lo)) y x
+      none c (yes l) true y x = rw (lt-leb lo c l)
+      none c (no l) true y x = rw (le-leb lo c (omega arith), le-ltb c lo (omega arith))
       none c l false y x = refl
 
   pub column-again : (t u : List ℕ) (j m x : ℕ) (v : Bool) → j < groups w → r < groups w → v ≡ f j → m ≡ 2 ^ (r % 8)
-      → Masked (getD u (j * w + (w - 1 - r / 8)) 0) m v x → ColumnTo w f r t u j → ColumnTo w f r t (set u (j * w + (w - 1 - r / 8)) x) (j + 1)
+      → Masked (getD u (j * w + (w - 1 - r / 8)) 0) m v x → ColumnTo w f r lo t u j → ColumnTo w f r lo t (set u (j * w + (w - 1 - r / 8)) x) (j + 1)
   column-again t u j m x v hj hr e em ex s = rw (set-masked w u j r m x v em ex) again
     where
-      more : (c d : ℕ) (z : Bool) → cond (eqb c j && eqb d r) v (cond (eqb d r && (leb 2 c && ltb c j)) (f c) z) ≡ cond (eqb d r && (leb 2 c && ltb c (j + 1))) (f c) z
+      more : (c d : ℕ) (z : Bool) → cond (eqb c j && eqb d r) v (cond (eqb d r && (leb lo c && ltb c j)) (f c) z) ≡ cond (eqb d r && (leb lo c && ltb c (j + 1))) (f c) z
       more c d z = go (ℕ-discrete c j) (ℕ-discrete d r) (decLt c j)
         where
           go : Dec (c ≡ j) → Dec (d ≡ r) → Dec (c < j)
-              → cond (eqb c j && eqb d r) v (cond (eqb d r && (leb 2 c && ltb c j)) (f c) z) ≡ cond (eqb d r && (leb 2 c && ltb c (j + 1))) (f c) z
-          go (yes p) (yes q) l = rw (eq-eqb c j p, eq-eqb d r q, le-leb 2 c (omega (arith, s .from)), lt-ltb c (j + 1) (omega arith), p) e
+              → cond (eqb c j && eqb d r) v (cond (eqb d r && (leb lo c && ltb c j)) (f c) z) ≡ cond (eqb d r && (leb lo c && ltb c (j + 1))) (f c) z
+          go (yes p) (yes q) l = rw (eq-eqb c j p, eq-eqb d r q, le-leb lo c (omega (arith, s .from)), lt-ltb c (j + 1) (omega arith), p) e
           go (no p) (yes q) (yes l) = rw (ne-eqb c j p, eq-eqb d r q, lt-ltb c j l, lt-ltb c (j + 1) (omega arith))
           go (no p) (yes q) (no l) = rw (ne-eqb c j p, eq-eqb d r q, le-ltb c j (omega arith), le-ltb c (j + 1) (omega arith))
           go (yes p) (no q) l = rw (eq-eqb c j p, ne-eqb d r q)
           go (no p) (no q) l = rw (ne-eqb c j p, ne-eqb d r q)
 
-      again : ColumnTo w f r t (setP w u j r v) (j + 1)
+      again : ColumnTo w f r lo t (setP w u j r v) (j + 1)
       again = record {
         from = omega (arith, s .from);
         upTo = omega arith;
@@ -226,13 +219,90 @@ module _ (w : ℕ) (f : ℕ → Bool) (r : ℕ) where
             ∙ more c d (P w t c d);
       }
 
-  pub column-done : (t u : List ℕ) (j : ℕ) → groups w ≤ j → ColumnTo w f r t u j → ColumnIs w f r t u
-  column-done t u j h s = record {
-    sized = s .sized;
-    says = λ c d hc hd. s .says c d hc hd ∙ rw (lt-ltb c j (omega arith)) (all (eqb d r) (leb 2 c) (f c) (P w t c d));
+  -- two parts, one after the other; the second may go by another g that says the same there
+  pub column-join : (g : ℕ → Bool) (t u v : List ℕ) (mid hi : ℕ) → ColumnTo w f r lo t u mid → ColumnTo w g r mid u v hi
+      → ((c : ℕ) → mid ≤ c → c < hi → g c ≡ f c) → ColumnTo w f r lo t v hi
+  column-join g t u v mid hi s n e = record {
+    from = omega (arith, s .from, n .from);
+    upTo = n .upTo;
+    whole = n .whole;
+    sized = n .sized ∙ s .sized;
+    says = λ c d hc hd.
+        n .says c d hc hd
+        ∙ ap (λ (z : Bool). cond (eqb d r && (leb mid c && ltb c hi)) (g c) z) (s .says c d hc hd)
+        ∙ both c (eqb d r) (P w t c d) (decLt c lo) (decLt c mid) (decLt c hi);
   }
     where
-      all : (p q y x : Bool) → cond (p && (q && true)) y x ≡ cond (p && q) y x
-      all true true y x = refl
-      all true false y x = refl
-      all false q y x = refl
+      both : (c : ℕ) (p z : Bool) → Dec (c < lo) → Dec (c < mid) → Dec (c < hi)
+          → cond (p && (leb mid c && ltb c hi)) (g c) (cond (p && (leb lo c && ltb c mid)) (f c) z) ≡ cond (p && (leb lo c && ltb c hi)) (f c) z
+      both c false z a b h = refl
+      both c true z (yes a) b h = rw (lt-leb lo c a, lt-leb mid c (omega (arith, s .from)))
+      both c true z (no a) (yes b) h = rw (le-leb lo c (omega arith), lt-leb mid c b, lt-ltb c mid b, lt-ltb c hi (omega (arith, n .from)))
+      both c true z (no a) (no b) (yes h) = rw (le-leb lo c (omega arith), le-leb mid c (omega arith), lt-ltb c hi h) (e c (omega arith) h)
+      both c true z (no a) (no b) (no h) = rw (le-ltb c hi (omega arith), le-ltb c mid (omega arith), le-leb lo c (omega arith), le-leb mid c (omega arith))
+
+pub column-done : (w : ℕ) (f : ℕ → Bool) (r : ℕ) (t u : List ℕ) (j : ℕ) → groups w ≤ j → ColumnTo w f r 2 t u j → ColumnIs w f r t u
+column-done w f r t u j h s = record {
+  sized = s .sized;
+  says = λ c d hc hd. s .says c d hc hd ∙ rw (lt-ltb c j (omega arith)) (all (eqb d r) (leb 2 c) (f c) (P w t c d));
+}
+  where
+    all : (p q y x : Bool) → cond (p && (q && true)) y x ≡ cond (p && q) y x
+    all true true y x = refl
+    all true false y x = refl
+    all false q y x = refl
+
+-- ---- a byte of the row for eight groups at a time
+module _ (w : ℕ) (bits first low r : ℕ) where
+  pub bits-start : (t : List ℕ) → length t ≡ tableSize w → first + 8 ≤ groups w → low ≤ 8
+      → ColumnTo w (byteHas bits) r (first + low) t t (first + low)
+  bits-start t l h k = column-start w (byteHas bits) r (first + low) t l (omega arith)
+
+  pub bits-again : (t u : List ℕ) (k m x : ℕ) (v : Bool) → first + 8 ≤ groups w → first % 8 ≡ 0 → k < 8 → r < groups w
+      → v ≡ eqb (bit bits k) 1 → m ≡ 2 ^ (r % 8) → Masked (getD u ((first + k) * w + (w - 1 - r / 8)) 0) m v x
+      → ColumnTo w (byteHas bits) r (first + low) t u (first + k)
+      → ColumnTo w (byteHas bits) r (first + low) t (set u ((first + k) * w + (w - 1 - r / 8)) x) (first + (k + 1))
+  unfolding byteHas
+  bits-again t u k m x v hf ha hk hr e em ex s =
+      let q : k ≡ (first + k) % 8 = omega arith in
+      let n : first + k + 1 ≡ first + (k + 1) = omega arith in
+      subst (λ (j : ℕ). ColumnTo w (byteHas bits) r (first + low) t (set u ((first + k) * w + (w - 1 - r / 8)) x) j) n
+      (column-again w (byteHas bits) r (first + low) t u (first + k) m x v (omega arith) hr (e ∙ ap (λ (j : ℕ). eqb (bit bits j) 1) q) em ex s)
+
+  pub bits-done : (t u : List ℕ) (k : ℕ) → 8 ≤ k → first + 8 ≤ groups w → ColumnTo w (byteHas bits) r (first + low) t u (first + k)
+      → k ≤ 8 → ColumnTo w (byteHas bits) r (first + low) t u (first + 8)
+  bits-done t u k h hf s l = let e : k ≡ 8 = omega arith in subst (λ (j : ℕ). ColumnTo w (byteHas bits) r (first + low) t u (first + j)) e s
+
+-- row i's byte of eight groups says of them what the row says
+byte-row : (rows : List ℕ) (i q c : ℕ) → 8 * q ≤ c → c < 8 * q + 8 → byteHas (getD rows (i * 16 + (15 - q)) 0) c ≡ P 16 rows i c
+unfolding byteHas P place
+byte-row rows i q c l h =
+    let e : q ≡ c / 8 = omega arith in
+    ap (λ (j : ℕ). eqb (bit (getD rows (i * 16 + (15 - j)) 0) (c % 8)) 1) e
+
+module _ (w : ℕ) (rows : List ℕ) (i r : ℕ) where
+  pub bytes-start : (t u : List ℕ) → ColumnTo w (byteHas (getD rows (i * 16 + 15) 0)) r 2 t u 8 → ColumnTo w (P 16 rows i) r 8 u u 8
+  bytes-start t u s = column-start w (P 16 rows i) r 8 u (s .whole) (s .upTo)
+
+  pub bytes-again : (t u v : List ℕ) (q : ℕ) → ColumnTo w (P 16 rows i) r 8 t u (q * 8)
+      → ColumnTo w (byteHas (getD rows (i * 16 + (15 - q)) 0)) r (q * 8 + 0) u v (q * 8 + 8) → ColumnTo w (P 16 rows i) r 8 t v ((q + 1) * 8)
+  bytes-again t u v q s n =
+      let z : q * 8 + 0 ≡ q * 8 = omega arith in
+      let e : q * 8 + 8 ≡ (q + 1) * 8 = omega arith in
+      subst (λ (j : ℕ). ColumnTo w (P 16 rows i) r 8 t v j) e
+      (column-join w (P 16 rows i) r 8 (byteHas (getD rows (i * 16 + (15 - q)) 0)) t u v (q * 8) (q * 8 + 8) s
+      (subst (λ (j : ℕ). ColumnTo w (byteHas (getD rows (i * 16 + (15 - q)) 0)) r j u v (q * 8 + 8)) z n)
+      (λ c l h. byte-row rows i q c (omega arith) (omega arith)))
+
+  pub bytes-done : (t u v : List ℕ) (q : ℕ) → length t ≡ tableSize w → w ≤ q
+      → ColumnTo w (byteHas (getD rows (i * 16 + 15) 0)) r 2 t u 8 → ColumnTo w (P 16 rows i) r 8 u v (q * 8)
+      → ColumnIs w (P 16 rows i) r t v
+  bytes-done t u v q hl h first rest =
+      column-done w (P 16 rows i) r t v (q * 8) (omega arith)
+      (column-join w (P 16 rows i) r 2 (P 16 rows i) t u v 8 (q * 8)
+      (column-join w (P 16 rows i) r 2 (byteHas (getD rows (i * 16 + 15) 0)) t t u 2 8
+      (column-start w (P 16 rows i) r 2 t hl (omega (arith, first .upTo)))
+      first
+      (λ c l k. byte-row rows i 0 c (omega arith) k))
+      rest
+      (λ c l k. refl))

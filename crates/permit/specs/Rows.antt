@@ -2,11 +2,11 @@
 use mathlib.Core.Path.{_≡_}
 use mathlib.Core.Bool.{Bool, cond, _&&_}
 use mathlib.Core.List.{List}
-use Prim.Native.Nat.{ℕ, _^_, _<_}
-use lib.Dec.{eqb, leb}
+use Prim.Native.Nat.{ℕ, _%_, _^_, _≤_, _<_}
+use lib.Dec.{eqb, leb, ltb}
 use lib.ListN.{length}
-use Rattle.wire.specs.Bits.{setBit}
-use Rattle.permit.specs.Permission.{groups, P}
+use Rattle.wire.specs.Bits.{bit, setBit}
+use Rattle.permit.specs.Permission.{groups, tableSize, P}
 
 -- r is x with the bit made v that m is the mask of
 abbrev pub Masked : ℕ → ℕ → Bool → ℕ → Type 0
@@ -21,3 +21,15 @@ pub record RowIs (w : ℕ) (f : ℕ → Bool) (r : ℕ) (t u : List ℕ) : Type 
 pub record ColumnIs (w : ℕ) (f : ℕ → Bool) (r : ℕ) (t u : List ℕ) : Type 0 where
   pub sized : length u ≡ length t
   pub says : (c d : ℕ) → c < groups w → d < groups w → P w u c d ≡ cond (eqb d r && leb 2 c) (f c) (P w t c d)
+
+-- the rows from lo to below j say f of group r; all else is t's
+pub record ColumnTo (w : ℕ) (f : ℕ → Bool) (r lo : ℕ) (t u : List ℕ) (j : ℕ) : Type 0 where
+  pub from : lo ≤ j
+  pub upTo : j ≤ groups w
+  pub whole : length u ≡ tableSize w
+  pub sized : length u ≡ length t
+  pub says : (c d : ℕ) → c < groups w → d < groups w → P w u c d ≡ cond (eqb d r && (leb lo c && ltb c j)) (f c) (P w t c d)
+
+-- group j in its byte x of a row
+unfoldable pub byteHas : ℕ → ℕ → Bool
+byteHas x j = eqb (bit x (j % 8)) 1

@@ -2,11 +2,14 @@
 use wire::ZoneGroup;
 ghost use mathlib.Core.Path.{_≡_};
 ghost use Prim.Native.Nat.{_+_, _*_, _/_, _%_, _^_, _≤_, _<_};
+ghost use lib.Dec.{eqb};
 ghost use lib.ListN.{length, drop};
 ghost use lib.Seq.{paste};
-ghost use Rattle.permit.specs.Permission.{P, setP, setBoth, startByte, startTable, Whole};
+ghost use Rattle.wire.specs.Bits.{bit};
+ghost use Rattle.permit.specs.Permission.{P, setP, setBoth, startTable, Whole};
 ghost use Rattle.permit.specs.Orders.{apply, rowOrders, batchOrders};
-ghost use Rattle.permit.specs.Rows.{Masked, RowIs, ColumnIs};
+ghost use Rattle.permit.specs.Rows.{Masked, RowIs, ColumnIs, ColumnTo, byteHas};
+ghost use Rattle.permit.specs.Start.{Between, rowAgain};
 
 // The bit of a group within its byte.
 const MASKS: [u8; 8] = [1, 2, 4, 8, 16, 32, 64, 128];
@@ -59,16 +62,28 @@ pub fn write_both(permissions: &mut [u8], a: ZoneGroup, b: ZoneGroup, on: bool)
     write_one(permissions, b, a, on);
 }
 
-fn start_byte(i: usize) -> u8
-    ensures { λ r. ⌜ r ≡ startByte 16 i ⌝ }
+// Writes x into the bytes from `from` to below `to`.
+fn fill(bytes: &mut [u8], from: usize, to: usize, x: u8)
+    requires { ⌜ (from ≤ to) × (to ≤ length (now bytes)) ⌝ }
+    ensures { λ _. ⌜ Between (λ _. x) from (now (bytes .entry)) (now (bytes .exit)) to ⌝ }
 {
-    if i / 16 == 1 {
-        return 255;
+    let mut at = from;
+    while at < to {
+        bytes[at] = x;
+        at += 1;
     }
-    if i % 16 == 15 {
-        return 2;
+}
+
+// Every row becomes row 0. A byte is read one row before it is written, so the compiler moves whole rows at a time.
+fn repeat_row(permissions: &mut [u8])
+    requires { ⌜ length (now permissions) ≡ 2048 ⌝ }
+    ensures { λ _. ⌜ Between (rowAgain 16 (now (permissions .entry))) 16 (now (permissions .entry)) (now (permissions .exit)) 2048 ⌝ }
+{
+    let mut at: usize = 16;
+    while at < 2048 {
+        permissions[at] = permissions[at - 16];
+        at += 1;
     }
-    0
 }
 
 // Group 1 reaches all groups, group 0 only group 1; no group but 1 reaches itself until ordered to.
@@ -76,11 +91,10 @@ pub fn start_table(permissions: &mut [u8])
     requires { ⌜ length (now permissions) ≡ 2048 ⌝ }
     ensures { λ _. ⌜ now (permissions .exit) ≡ startTable 16 ⌝ }
 {
-    let mut at: usize = 0;
-    while at < 2048 {
-        permissions[at] = start_byte(at);
-        at += 1;
-    }
+    fill(permissions, 0, 15, 0);
+    permissions[15] = 2;
+    repeat_row(permissions);
+    fill(permissions, 16, 32, 255);
 }
 
 // Copies n bytes of `source` from byte `from` on into `target` at byte `at`.
@@ -113,20 +127,43 @@ fn put_row(permissions: &mut [u8], rows: &[u8], i: usize, r: ZoneGroup)
     permissions[to + 15] = keep_low(rows[from + 15], permissions[to + 15]);
 }
 
+// Bit k of a byte, by a shift: the column reads 126 of them for each row of a batch.
+fn bit_of(x: u8, k: usize) -> bool
+    requires { ⌜ k < 8 ⌝ }
+    ensures { λ r. ⌜ r ≡ eqb (bit x k) 1 ⌝ }
+{
+    (x >> k) % 2 == 1
+}
+
+// Group `group` of the rows from first + low to first + 7 becomes that row's bit of `bits`, a byte that is read once for
+// all eight. m is the group's mask.
+fn put_bits(permissions: &mut [u8], bits: u8, first: usize, low: usize, group: usize, m: u8)
+    requires { ⌜ (length (now permissions) ≡ 2048) × (first + 8 ≤ 128) × (first % 8 ≡ 0) × (low ≤ 8) × (group < 128) × (m ≡ 2 ^ (group % 8)) ⌝ }
+    ensures { λ _. ⌜ ColumnTo 16 (byteHas bits) group (first + low) (now (permissions .entry)) (now (permissions .exit)) (first + 8) ⌝ }
+{
+    let byte = 15 - group / 8;
+    let mut k = low;
+    while k < 8 {
+        let on = bit_of(bits, k);
+        let at = (first + k) * 16 + byte;
+        permissions[at] = with_mask(permissions[at], m, on);
+        k += 1;
+    }
+}
+
 // Group r of every row from 2 on becomes that row's group in row i of a batch's rows.
 fn put_column(permissions: &mut [u8], rows: &[u8], i: usize, r: ZoneGroup)
     requires { ⌜ (length (now permissions) ≡ 2048) × (16 * i + 16 ≤ length (now rows)) × (r .0 < 128) ⌝ }
     ensures { λ _. ⌜ ColumnIs 16 (P 16 (now (rows .entry)) i) (r .0) (now (permissions .entry)) (now (permissions .exit)) ⌝ }
 {
     let group = r.0 as usize;
-    let byte = 15 - group / 8;
     let m = mask(group);
-    let mut j: usize = 2;
-    while j < 128 {
-        let on = row_has(rows, i, j);
-        let at = j * 16 + byte;
-        permissions[at] = with_mask(permissions[at], m, on);
-        j += 1;
+    let from = i * 16;
+    put_bits(permissions, rows[from + 15], 0, 2, group, m);
+    let mut q: usize = 1;
+    while q < 16 {
+        put_bits(permissions, rows[from + (15 - q)], q * 8, 0, group, m);
+        q += 1;
     }
 }
 

@@ -1,63 +1,71 @@
--- `permit::put_column` meets its contract: the rows below j have their bit.
+-- `permit::put_column` meets its contract: the rows of the bytes before q have their bit.
 -- Assumes nothing.
-use Prim.Native.Nat.{_-_}
+use Prim.Native.Nat.{_-_, _*_}
 use native.Mathlib.Omega.{arith}
 use borrow.Author.Needs.{needs}
 use Rattle.permit.specs.Permission.{P}
-use Rattle.permit.proofs.RowLaws.{ColumnTo, column-start, column-again, column-done}
+use Rattle.permit.specs.Rows.{ColumnTo}
+use Rattle.permit.proofs.RowLaws.{bytes-start, bytes-again, bytes-done}
 use Rattle.permit.proofs.put_column.Statement.{statement}
 use Rattle.permit.proofs.put_column.Tie as tie
 
 abbrev Inv-loop : tie.InvT-loop
-Inv-loop permissions₀ rows i group byte m j₀ permissions j = ColumnTo 16 (P 16 rows i) group permissions₀ permissions j
+Inv-loop permissions₀ rows i group m from q₀ permissions q =
+    ColumnTo 16 (P 16 rows i) group 8 permissions₀ permissions (q * 8)
 
 abbrev μ-loop : tie.MeasureT-loop
-μ-loop permissions₀ rows i group byte m j₀ permissions j = 128 - j
+μ-loop permissions₀ rows i group m from q₀ permissions q = 16 - q
 
 cast-group : tie.Need-cast-group Inv-loop μ-loop
 cast-group c = search needs
 
-sub-byte : tie.Need-sub-byte Inv-loop μ-loop
-sub-byte c = search needs
-
 mask-requires : tie.Need-mask-requires Inv-loop μ-loop
 mask-requires c κs = search needs
 
+mul-from : tie.Need-mul-from Inv-loop μ-loop
+mul-from c = omega arith
+
+add-put-bits : tie.Need-add-put-bits Inv-loop μ-loop
+add-put-bits c = omega arith
+
+shared-slice-read-put-bits : tie.Need-shared-slice-read-put-bits Inv-loop μ-loop
+shared-slice-read-put-bits c = omega arith
+
+put-bits-requires : tie.Need-put-bits-requires Inv-loop μ-loop
+put-bits-requires c κs = search needs
+
 loop-holds : tie.Need-loop-holds Inv-loop μ-loop
-loop-holds c = search (column-start 16)
+loop-holds c = search (bytes-start 16)
 
-row-has-requires : tie.Need-row-has-requires Inv-loop μ-loop
-row-has-requires c κs = search needs
+sub-put-bits : tie.Need-sub-put-bits Inv-loop μ-loop
+sub-put-bits c = omega arith
 
-mul-at : tie.Need-mul-at Inv-loop μ-loop
-mul-at c = omega arith
+add-put-bits-2 : tie.Need-add-put-bits-2 Inv-loop μ-loop
+add-put-bits-2 c = omega arith
 
-add-at : tie.Need-add-at Inv-loop μ-loop
-add-at c = omega arith
+shared-slice-read-put-bits-2 : tie.Need-shared-slice-read-put-bits-2 Inv-loop μ-loop
+shared-slice-read-put-bits-2 c = omega arith
 
-slice-read-with-mask : tie.Need-slice-read-with-mask Inv-loop μ-loop
-slice-read-with-mask c = omega arith
+mul-put-bits : tie.Need-mul-put-bits Inv-loop μ-loop
+mul-put-bits c = omega arith
 
-with-mask-requires : tie.Need-with-mask-requires Inv-loop μ-loop
-with-mask-requires c κs = search needs
+put-bits-requires-2 : tie.Need-put-bits-requires-2 Inv-loop μ-loop
+put-bits-requires-2 c κs = search needs
 
-slice-write-permissions : tie.Need-slice-write-permissions Inv-loop μ-loop
-slice-write-permissions c = omega arith
-
-add-j : tie.Need-add-j Inv-loop μ-loop
-add-j c = omega arith
+add-q : tie.Need-add-q Inv-loop μ-loop
+add-q c = omega arith
 
 loop-less : tie.Need-loop-less Inv-loop μ-loop
 loop-less c = omega arith
 
 loop-again : tie.Need-loop-again Inv-loop μ-loop
-loop-again c = search (column-again 16)
+loop-again c = search (bytes-again 16)
 
 same-length : tie.Need-same-length Inv-loop μ-loop
 same-length c = search needs
 
 returns : tie.Need-returns Inv-loop μ-loop
-returns c = search (column-done 16)
+returns c = search (bytes-done 16)
 
 pub put-column-spec : {M : Type 1} → statement M
 put-column-spec =
@@ -66,16 +74,18 @@ put-column-spec =
     Inv-loop
     μ-loop
     cast-group
-    sub-byte
     mask-requires
+    mul-from
+    add-put-bits
+    shared-slice-read-put-bits
+    put-bits-requires
     loop-holds
-    row-has-requires
-    mul-at
-    add-at
-    slice-read-with-mask
-    with-mask-requires
-    slice-write-permissions
-    add-j
+    sub-put-bits
+    add-put-bits-2
+    shared-slice-read-put-bits-2
+    mul-put-bits
+    put-bits-requires-2
+    add-q
     loop-less
     loop-again
     same-length

@@ -1,55 +1,37 @@
--- `permit::start_table` meets its contract: the bytes below `at` are filled.
+-- `permit::start_table` meets its contract: row 0, every row as row 0, row 1.
 -- Assumes nothing.
-use Prim.Native.Nat.{_-_}
 use native.Mathlib.Omega.{arith}
 use borrow.Author.Needs.{needs}
-use Rattle.wire.proofs.Loops.{Filled, fill-start}
-use Rattle.permit.specs.Permission.{startByte}
-use Rattle.permit.proofs.Laws.{start-again, start-done}
+use lib.ListN.{length-set}
+use Rattle.permit.proofs.StartLaws.{start-sized, start-made}
 use Rattle.permit.proofs.start_table.Statement.{statement}
 use Rattle.permit.proofs.start_table.Tie as tie
 
-abbrev Inv-loop : tie.InvT-loop
-Inv-loop permissions₀ at₀ permissions at = Filled (startByte 16) 2048 permissions₀ permissions at
+fill-requires : tie.Need-fill-requires
+fill-requires c κs = search needs
 
-abbrev μ-loop : tie.MeasureT-loop
-μ-loop permissions₀ at₀ permissions at = 2048 - at
+slice-write-permissions : tie.Need-slice-write-permissions
+slice-write-permissions c = search needs
 
-loop-holds : tie.Need-loop-holds Inv-loop μ-loop
-loop-holds c = search fill-start
+repeat-row-requires : tie.Need-repeat-row-requires
+repeat-row-requires c κs = simp length-set (omega arith)
 
-start-byte-requires : tie.Need-start-byte-requires Inv-loop μ-loop
-start-byte-requires c κs = search needs
+fill-requires-2 : tie.Need-fill-requires-2
+fill-requires-2 c κs = search needs
 
-slice-write-permissions : tie.Need-slice-write-permissions Inv-loop μ-loop
-slice-write-permissions c = omega arith
+same-length : tie.Need-same-length
+same-length c = search (start-sized 16 (omega arith))
 
-add-at : tie.Need-add-at Inv-loop μ-loop
-add-at c = omega arith
-
-loop-less : tie.Need-loop-less Inv-loop μ-loop
-loop-less c = omega arith
-
-loop-again : tie.Need-loop-again Inv-loop μ-loop
-loop-again c = search (start-again 16)
-
-same-length : tie.Need-same-length Inv-loop μ-loop
-same-length c = search needs
-
-returns : tie.Need-returns Inv-loop μ-loop
-returns c = search (start-done 16)
+returns : tie.Need-returns
+returns c = search (start-made 16 (omega arith))
 
 pub start-table-spec : {M : Type 1} → statement M
 start-table-spec =
     tie.close
     (tie.spec
-    Inv-loop
-    μ-loop
-    loop-holds
-    start-byte-requires
+    fill-requires
     slice-write-permissions
-    add-at
-    loop-less
-    loop-again
+    repeat-row-requires
+    fill-requires-2
     same-length
     returns)

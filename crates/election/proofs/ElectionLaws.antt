@@ -7,11 +7,13 @@ use mathlib.Core.Logic.{_⊎_, inl, inr}
 use Prim.Native.Nat.{ℕ, zero, suc, _≤_, _<_}
 use native.Mathlib.Decide.{ℕ-discrete, decLt}
 use native.Mathlib.Omega.{arith}
+use mir.Syntax.{w8}
+use mir.Val.{Fits}
 use borrow.Author.Tests.{lt-ltb, le-ltb, eq-eqb, ne-eqb}
 use Rattle.tables.specs.Phys.{phyCount, phyPriority, phyAddress, ready}
 use Rattle.tables.specs.Routes.{routeCount, routePriority, routeAddress}
 use Rattle.election.specs.declared.Candidate.{Candidate}
-use Rattle.election.specs.Election.{fit, candidate, phyCandidate, phyCandidates, routeCandidate, routeCandidates, candidates, beats, best, nobody, elected, Greatest}
+use Rattle.election.specs.Election.{fit, candidate, phyCandidate, phyCandidates, routeCandidate, routeCandidates, candidates, beats, better, best, nobody, elected, Greatest}
 
 -- ---- the order: d is at most c
 abbrev AtMost : Candidate → Candidate → Type 0
@@ -184,3 +186,45 @@ greatest-one cs c d (inl h) (inl k) = equal c d (not-above c d (k .1 c (h .0))) 
 greatest-one cs c d (inl h) (inr k) = absurd (empty c cs (h .0) (k .1))
 greatest-one cs c d (inr h) (inl k) = absurd (empty d cs (k .0) (h .1))
 greatest-one cs c d (inr h) (inr k) = h .0 ∙ sym (k .0)
+
+-- ---- a priority has four bits
+-- every candidate's does
+abbrev Small : List Candidate → Type 0
+Small [] = Unit
+Small (c ∷ cs) = (c .priority < 16) × Small cs
+
+small-append : (cs ds : List Candidate) → Small cs → Small ds → Small (cs ++ ds)
+small-append [] ds hc hd = hd
+small-append (c ∷ cs) ds hc hd = (hc .0, small-append cs ds (hc .1) hd)
+
+small-candidate : (b : Bool) (p a : ℕ) → p < 16 → Small (candidate b p a)
+small-candidate true p a h = (h, tt)
+small-candidate false p a h = tt
+
+small-phys : (phys : List ℕ) (i n : ℕ) → Small (phyCandidates phys i n)
+unfolding phyCandidates
+small-phys phys i zero = tt
+small-phys phys i (suc n) = small-append (phyCandidate phys i) (phyCandidates phys (suc i) n) (small-candidate (ready phys i && fit (phyPriority phys i) (phyAddress phys i)) (phyPriority phys i) (phyAddress phys i) (omega arith)) (small-phys phys (suc i) n)
+
+small-routes : (routes : List ℕ) (i n : ℕ) → Small (routeCandidates routes i n)
+unfolding routeCandidates
+small-routes routes i zero = tt
+small-routes routes i (suc n) = small-append (routeCandidate routes i) (routeCandidates routes (suc i) n) (small-candidate (fit (routePriority routes i) (routeAddress routes i)) (routePriority routes i) (routeAddress routes i) (omega arith)) (small-routes routes (suc i) n)
+
+small-better : (x : Bool) (c b : Candidate) → c .priority < 16 → b .priority < 16 → (cond x c b) .priority < 16
+small-better true c b hc hb = hc
+small-better false c b hc hb = hb
+
+small-best : (b : Candidate) (cs : List Candidate) → b .priority < 16 → Small cs → (best b cs) .priority < 16
+unfolding best
+small-best b [] hb hs = hb
+small-best b (c ∷ cs) hb hs = small-best (better c b) cs (small-better (beats c b) c b (hs .0) hb) (hs .1)
+
+-- so does the elected one's
+pub elected-small : (phys routes : List ℕ) → (elected phys routes) .priority < 16
+elected-small phys routes =
+    small-best nobody (candidates phys routes) (omega arith)
+    (small-append (phyCandidates phys 0 (phyCount phys)) (routeCandidates routes 0 (routeCount routes)) (small-phys phys 0 (phyCount phys)) (small-routes routes 0 (routeCount routes)))
+
+pub elected-fits : (phys routes : List ℕ) (b : Candidate) → b ≡ elected phys routes → Fits w8 (b .priority)
+elected-fits phys routes b e = rw e (record { fits = omega (arith, elected-small phys routes) })

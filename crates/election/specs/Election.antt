@@ -16,7 +16,7 @@ use Rattle.election.specs.declared.Elected.the-variants.{Refused, Superv
 -- the answer in document 01's numbers
 abbrev pub electedAs : Elected → Answer
 electedAs (Refused n) = refusal n
-electedAs (Supervisor c) = answer (c .priority ∷ c .address ∷ [])
+electedAs (Supervisor p a) = answer (p ∷ a ∷ [])
 
 -- "priority above 0 and address not zero"
 abbrev pub fit : ℕ → ℕ → Bool

@@ -11,15 +11,16 @@ ghost use Rattle.tables.specs.Phys.{phyCount, physSize};
 ghost use Rattle.tables.specs.Routes.{routeCount, routesSize};
 ghost use Rattle.election.specs.Election.{electedAs, fit, candidate, phyCandidate, phyCandidates, routeCandidate, routeCandidates, better, best, elected, electOut};
 
-// The best candidate so far.
+// The best candidate so far. Two fields of one size: a gap between them would be copied at each step.
 pub struct Candidate {
-    pub priority: u8,
+    pub priority: u64,
     pub address: u64,
 }
 
 pub enum Elected {
     Refused(u8),
-    Supervisor(Candidate),
+    // Priority and address.
+    Supervisor(u8, u64),
 }
 
 // The refusals of an election: the sizes of both tables.
@@ -45,7 +46,7 @@ fn elect_refusal(phys: &[u8], routes: &[u8]) -> u8
 }
 
 // The winner of b and the candidate of this priority and address.
-fn better(b: Candidate, priority: u8, address: u64) -> Candidate
+fn better(b: Candidate, priority: u64, address: u64) -> Candidate
     ensures { λ r. ⌜ r ≡ better (record { priority = priority; address = address }) b ⌝ }
 {
     if b.priority < priority {
@@ -60,14 +61,14 @@ fn better(b: Candidate, priority: u8, address: u64) -> Candidate
 }
 
 // The best candidate so far, lent: it becomes the better of itself and a candidate.
-fn update(best: &mut Candidate, priority: u8, address: u64)
+fn update(best: &mut Candidate, priority: u64, address: u64)
     ensures { λ _. ⌜ now (best .exit) ≡ better (record { priority = priority; address = address }) (now (best .entry)) ⌝ }
 {
     *best = better(*best, priority, address);
 }
 
 // The same with plain parameters, so that what stands above it needs no walk by hand.
-fn step(b: Candidate, priority: u8, address: u64) -> Candidate
+fn step(b: Candidate, priority: u64, address: u64) -> Candidate
     ensures { λ r. ⌜ r ≡ better (record { priority = priority; address = address }) b ⌝ }
 {
     let mut best = b;
@@ -76,7 +77,7 @@ fn step(b: Candidate, priority: u8, address: u64) -> Candidate
 }
 
 // The one step of both loops: the best of b and a record whose priority is above 0.
-fn consider(b: Candidate, priority: u8, address: u64) -> Candidate
+fn consider(b: Candidate, priority: u64, address: u64) -> Candidate
     requires { ⌜ 0 < priority ⌝ }
     ensures { λ r. ⌜ r ≡ best b (candidate (fit priority address) priority address) ⌝ }
 {
@@ -98,7 +99,7 @@ fn with_phy(b: Candidate, phys: &[u8], phy: PhyNumber) -> Candidate
     if priority == 0 {
         return b;
     }
-    consider(b, priority, tables::phy_address(phys, phy))
+    consider(b, priority as u64, tables::phy_address(phys, phy))
 }
 
 // The best of b and a route record, likewise.
@@ -110,7 +111,7 @@ fn with_route(b: Candidate, routes: &[u8], i: usize) -> Candidate
     if priority == 0 {
         return b;
     }
-    consider(b, priority, tables::route_address(routes, i))
+    consider(b, priority as u64, tables::route_address(routes, i))
 }
 
 // The best of b and the phy table.
@@ -163,5 +164,6 @@ pub fn elect(phys: &[u8], routes: &[u8]) -> Elected
     if no != 0 {
         return Elected::Refused(no);
     }
-    Elected::Supervisor(elect_both(phys, routes))
+    let best = elect_both(phys, routes);
+    Elected::Supervisor(best.priority as u8, best.address)
 }

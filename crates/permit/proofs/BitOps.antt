@@ -15,11 +15,19 @@ use Rattle.wire.specs.Bits.{num, bit, setBit}
 use Rattle.wire.proofs.BitLaws.{each8}
 use Rattle.permit.specs.Rows.{Masked}
 
-abbrev pub masks : List ℕ
-masks = 1 ∷ 2 ∷ 4 ∷ 8 ∷ 16 ∷ 32 ∷ 64 ∷ 128 ∷ []
-
-pub mask-at : (k : ℕ) → k < 8 → getD masks k 0 ≡ 2 ^ k
-mask-at = each8 (λ (k : ℕ). getD masks k 0 ≡ 2 ^ k) refl refl refl refl refl refl refl refl
+-- the last mask, where k is none of the seven numbers before it
+pub mask-last : (k : ℕ) → k < 8 → (k ≡ 0 → ⊥) → (k ≡ 1 → ⊥) → (k ≡ 2 → ⊥) → (k ≡ 3 → ⊥) → (k ≡ 4 → ⊥) → (k ≡ 5 → ⊥) → (k ≡ 6 → ⊥) → 128 ≡ 2 ^ k
+mask-last =
+    each8
+    (λ (k : ℕ). (k ≡ 0 → ⊥) → (k ≡ 1 → ⊥) → (k ≡ 2 → ⊥) → (k ≡ 3 → ⊥) → (k ≡ 4 → ⊥) → (k ≡ 5 → ⊥) → (k ≡ 6 → ⊥) → 128 ≡ 2 ^ k)
+    (λ a b c d e f g. absurd (a refl))
+    (λ a b c d e f g. absurd (b refl))
+    (λ a b c d e f g. absurd (c refl))
+    (λ a b c d e f g. absurd (d refl))
+    (λ a b c d e f g. absurd (e refl))
+    (λ a b c d e f g. absurd (f refl))
+    (λ a b c d e f g. absurd (g refl))
+    (λ a b c d e f g. refl)
 
 -- ---- `x | m`
 -- a power of two, as a block of k bits

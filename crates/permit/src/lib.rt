@@ -11,13 +11,21 @@ ghost use Rattle.permit.specs.Orders.{apply, rowOrders, batchOrders};
 ghost use Rattle.permit.specs.Rows.{Masked, RowIs, ColumnIs, ColumnTo, byteHas};
 ghost use Rattle.permit.specs.Start.{Between, rowAgain};
 
-// The bit of a group within its byte.
-const MASKS: [u8; 8] = [1, 2, 4, 8, 16, 32, 64, 128];
-
+// The bit of a group within its byte: eight masks, told apart by a match, since a table in a local is copied at each use.
 fn mask(group: usize) -> u8
     ensures { λ r. ⌜ r ≡ 2 ^ (group % 8) ⌝ }
 {
-    MASKS[group % 8]
+    let k = group % 8;
+    match k {
+        0 => 1,
+        1 => 2,
+        2 => 4,
+        3 => 8,
+        4 => 16,
+        5 => 32,
+        6 => 64,
+        _ => 128,
+    }
 }
 
 // Group `group` of row `row` in any rows of sixteen bytes, the table's or a request's.

@@ -10,7 +10,6 @@ pub use links::identify;
 pub use links::leaving;
 
 // The elected supervisor.
-pub use election::Candidate;
 pub use election::Elected;
 pub use election::elect;
 

@@ -90,10 +90,10 @@ fn elected_c(elected: Elected) -> ShelfElected
             priority: 0,
             address: 0,
         },
-        Elected::Supervisor(c) => ShelfElected {
+        Elected::Supervisor(priority, address) => ShelfElected {
             refusal: 0,
-            priority: c.priority as u32,
-            address: c.address,
+            priority: priority as u32,
+            address,
         },
     }
 }

@@ -3,6 +3,7 @@
 use Rattle.tables.proofs.RefusalLaws.{clear}
 use Rattle.tables.proofs.OutcomeLaws.{refuses, gives}
 use Rattle.election.proofs.Steps.{supervises}
+use Rattle.election.proofs.ElectionLaws.{elected-fits}
 use borrow.Author.Needs.{needs}
 use Rattle.election.proofs.elect.Statement.{statement}
 use Rattle.election.proofs.elect.Tie as tie
@@ -16,8 +17,12 @@ returns c = search refuses
 elect-both-requires : tie.Need-elect-both-requires
 elect-both-requires c κs = search clear
 
+cast-t6 : tie.Need-cast-t6
+cast-t6 c = search elected-fits
+
 returns-2 : tie.Need-returns-2
 returns-2 c = search (gives, supervises)
 
 pub elect-spec : {M : Type 1} → statement M
-elect-spec = tie.close (tie.spec elect-refusal-requires returns elect-both-requires returns-2)
+elect-spec =
+    tie.close (tie.spec elect-refusal-requires returns elect-both-requires cast-t6 returns-2)

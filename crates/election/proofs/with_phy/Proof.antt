@@ -17,6 +17,9 @@ phy-priority-requires c κs = search needs
 returns-2 : tie.Need-returns-2
 returns-2 c = search phy-zero
 
+cast-consider : tie.Need-cast-consider
+cast-consider c = search needs
+
 phy-address-requires : tie.Need-phy-address-requires
 phy-address-requires c κs = search needs
 
@@ -34,6 +37,7 @@ with-phy-spec =
     returns
     phy-priority-requires
     returns-2
+    cast-consider
     phy-address-requires
     consider-requires
     returns-3)

@@ -11,6 +11,9 @@ route-priority-requires c κs = search needs
 returns : tie.Need-returns
 returns c = search route-zero
 
+cast-consider : tie.Need-cast-consider
+cast-consider c = search needs
+
 route-address-requires : tie.Need-route-address-requires
 route-address-requires c κs = search needs
 
@@ -23,4 +26,4 @@ returns-2 c = search route-considered
 pub with-route-spec : {M : Type 1} → statement M
 with-route-spec =
     tie.close
-    (tie.spec route-priority-requires returns route-address-requires consider-requires returns-2)
+    (tie.spec route-priority-requires returns cast-consider route-address-requires consider-requires returns-2)

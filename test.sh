@@ -9,7 +9,9 @@ calls=${CALLS:-300000}
 
 step() { printf '== %s (%s s)\n' "$1" "$SECONDS"; }
 
-command -v cargo >/dev/null || { apt-get update && apt-get install -y --no-install-recommends cargo; } >/dev/null
+for tool in cargo python3; do
+    command -v "$tool" >/dev/null || { apt-get update && apt-get install -y --no-install-recommends "$tool"; } >/dev/null
+done
 
 step 'layout'
 rt fmt --check
@@ -30,6 +32,10 @@ cargo build --offline --quiet --release --manifest-path second/Cargo.toml
 
 step "the library against the second program, $calls calls"
 second/target/release/differ 'second/driver/run.sh target/driver' "$calls"
+
+step "the bench program's stored streams are those worked out by hand, and longer ones"
+python3 tests/make_streams.py --check
+python3 tests/long_streams.py
 
 step 'the bench program against the second program'
 second/target/release/streams "$bench"

@@ -81,7 +81,8 @@ struct shelf_told shelf_broadcast_frame(const uint8_t *phys, size_t phys_len, co
 
 /* An SMP request arrives; carried is the byte that the caller took from the connection's OPEN. Refusals: 1, 2, 3 (response_len
  * under 1,020 or set_len under 16), 7, 4, 5, 8. Writes the first length bytes of response and the first 16 of set; where result
- * is 0 and the function is 93h also bytes 0 and 1 of the records named, and where it is C1h also permissions. */
+ * is 0 and the function is 93h also bytes 0 and 1 of the records named, and where it is C1h also permissions. Where result is not 0
+ * length is 4 and the 16 bytes of set are zero. */
 struct shelf_answered shelf_smp(uint8_t *phys, size_t phys_len, uint8_t *permissions, size_t permissions_len, uint32_t phy,
                                 uint32_t carried, const uint8_t *request, size_t request_len, uint8_t *response,
                                 size_t response_len, uint8_t *set, size_t set_len);

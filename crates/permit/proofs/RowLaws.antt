@@ -281,8 +281,8 @@ byte-row rows i q c l h =
     ap (λ (j : ℕ). eqb (bit (getD rows (i * 16 + (15 - j)) 0) (c % 8)) 1) e
 
 module _ (w : ℕ) (rows : List ℕ) (i r : ℕ) where
-  pub bytes-start : (t u : List ℕ) → ColumnTo w (byteHas (getD rows (i * 16 + 15) 0)) r 2 t u 8 → ColumnTo w (P 16 rows i) r 8 u u 8
-  bytes-start t u s = column-start w (P 16 rows i) r 8 u (s .whole) (s .upTo)
+  pub bytes-start : (f : ℕ → Bool) (lo : ℕ) (t u : List ℕ) → ColumnTo w f r lo t u 8 → ColumnTo w (P 16 rows i) r 8 u u 8
+  bytes-start f lo t u s = column-start w (P 16 rows i) r 8 u (s .whole) (s .upTo)
 
   pub bytes-again : (t u v : List ℕ) (q : ℕ) → ColumnTo w (P 16 rows i) r 8 t u (q * 8)
       → ColumnTo w (byteHas (getD rows (i * 16 + (15 - q)) 0)) r (q * 8 + 0) u v (q * 8 + 8) → ColumnTo w (P 16 rows i) r 8 t v ((q + 1) * 8)

@@ -55,6 +55,11 @@ module _ (f : ℕ → ℕ) (lo : ℕ) (t : List ℕ) where
   pub between-above : (u : List ℕ) (at i : ℕ) → Between f lo t u at → i < length t → at ≤ i → getD u i 0 ≡ getD t i 0
   between-above u at i s h l = s .says i h ∙ rw (le-leb lo i (omega (arith, s .from)), le-ltb i at l)
 
+-- whatever three steps and a store write, the length stays
+pub steps-sized : (f g h : ℕ → ℕ) (i j k l m n at x : ℕ) (t a c d : List ℕ) → Between f i t a j → Between g k (set a at x) c l
+    → Between h m c d n → length d ≡ length t
+steps-sized f g h i j k l m n at x t a c d one two three = three .sized ∙ two .sized ∙ length-set a at x ∙ one .sized
+
 -- ---- the loop that fills
 module _ (x lo to : ℕ) where
   pub fill-again : (t u : List ℕ) (at : ℕ) → to ≤ length t → at < to → Between (λ _. x) lo t u at
@@ -94,10 +99,6 @@ module _ (w : ℕ) (wide : 0 < w) where
   start-one i x l h e = rw (eq-eqb (i / w) 1 (div-eq-of-lt-le w (omega arith) (omega arith))) e
 
   -- ---- all steps together: row 0, every row as row 0, row 1
-  pub start-sized : (t a c d : List ℕ) (n : ℕ) → Between (λ _. 0) 0 t a (w - 1)
-      → Between (rowAgain w (set a (w - 1) 2)) w (set a (w - 1) 2) c n → Between (λ _. 255) w c d (w + w) → length d ≡ length t
-  start-sized t a c d n zeros rows one = one .sized ∙ rows .sized ∙ length-set a (w - 1) 2 ∙ zeros .sized
-
   pub start-made : (t a c d : List ℕ) → length t ≡ tableSize w → Between (λ _. 0) 0 t a (w - 1)
       → Between (rowAgain w (set a (w - 1) 2)) w (set a (w - 1) 2) c (tableSize w) → Between (λ _. 255) w c d (w + w)
       → d ≡ startTable w

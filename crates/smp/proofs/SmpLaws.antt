@@ -13,17 +13,17 @@ use Rattle.wire.specs.PhySet.{physIn}
 use Rattle.wire.proofs.Sets.{length-setOf, count-front}
 use Rattle.permit.specs.Orders.{Order, apply}
 use Rattle.permit.specs.History.{Valid}
-use Rattle.tables.specs.Refusals.{firstRefusal}
+use Rattle.tables.specs.Refusals.{refuse, below, differ, firstRefusal}
 use Rattle.tables.specs.Outcome.{answer, Out, out, outcome}
-use Rattle.tables.specs.Phys.{readySet, emptySet}
-use Rattle.tables.proofs.RefusalLaws.{clear}
+use Rattle.tables.specs.Phys.{phyCount, readySet, emptySet}
+use Rattle.tables.proofs.RefusalLaws.{clear, front, back}
 use Rattle.tables.proofs.OutcomeLaws.{gives}
 use Rattle.requests.specs.Requests.{Reply, turnedDown, replied, Lent, Leaves, responseOf}
 use Rattle.phy_zone.specs.PhyZone.{phyZoneChecks, phyZoneReply}
 use Rattle.zone_permission.specs.ZonePermission.{permissionChecks, permissionSet, permissionReply, ordersOf}
 use Rattle.zone_permission.proofs.PermissionLaws.{accepted, valid-orders}
 use Rattle.zone_report.specs.ZoneReport.{reportReply}
-use Rattle.smp.specs.Smp.{functionOf, smpReply, lengthField, smpChecks, valuesOf, buffersOf, smpOut, acceptedOrders}
+use Rattle.smp.specs.Smp.{functionOf, smpReply, lengthField, arrivalChecks, smpChecks, valuesOf, buffersOf, smpOut, acceptedOrders}
 
 -- ---- the rule that the function byte picks
 module _ (phys permissions : List ℕ) (phy carried : ℕ) (request : List ℕ) where
@@ -145,6 +145,22 @@ module _ (phys permissions : List ℕ) (phy carried : ℕ) (request : List ℕ) 
       go false false = refl
 
 -- ---- the call
+module _ (phys permissions : List ℕ) (phy room space r : ℕ) (e : r ≡ firstRefusal (arrivalChecks phys permissions phy room space)) where
+  pub arrival-front : (carried : ℕ) (request : List ℕ) → (r ≡ 0 → ⊥) → r ≡ firstRefusal (smpChecks phys permissions phy carried request room space)
+  arrival-front carried request h = front (arrivalChecks phys permissions phy room space) _ r e h
+
+  pub arrival-back : (carried : ℕ) (request : List ℕ) (n : ℕ) → r ≡ 0
+      → n ≡ firstRefusal (refuse 4 (below (length request) 4) ∷ refuse 5 (differ (getD request 0 0) 0x40)
+      ∷ refuse 8 (below 255 (lengthField phys permissions phy carried request)) ∷ [])
+      → n ≡ firstRefusal (smpChecks phys permissions phy carried request room space)
+  arrival-back carried request n z en = back (arrivalChecks phys permissions phy room space) _ r n tt e z en
+
+  pub arrival-there : r ≡ 0 → phy < phyCount phys
+  arrival-there z = let k = clear (arrivalChecks phys permissions phy room space) r e z tt in omega arith
+
+  pub arrival-whole : r ≡ 0 → length permissions ≡ 2048
+  arrival-whole z = let k = clear (arrivalChecks phys permissions phy room space) r e z tt in omega arith
+
 pub smp-lent : (phys permissions : List ℕ) (phy carried : ℕ) (request : List ℕ) (room space r : ℕ)
     → r ≡ firstRefusal (smpChecks phys permissions phy carried request room space) → r ≡ 0 → Lent phys permissions phy (length request) room space
 smp-lent phys permissions phy carried request room space r e z =

@@ -37,16 +37,22 @@ smpReply phys permissions phy carried request =
 unfoldable pub lengthField : List ℕ → List ℕ → ℕ → ℕ → List ℕ → ℕ
 lengthField phys permissions phy carried request = length ((smpReply phys permissions phy carried request) .rest) / 4
 
--- refusals 1, 2, 3, 7, 4 ("SMP under 4"), 5 ("SMP byte 0 not 40h"); `room` is the response buffer's size, `space` the phy set's
-abbrev pub smpFront : List ℕ → List ℕ → ℕ → List ℕ → ℕ → ℕ → List Check
-smpFront phys permissions phy request room space =
+-- refusals 1, 2, 3, 7; `room` is the response buffer's size, `space` the phy set's
+abbrev pub arrivalChecks : List ℕ → List ℕ → ℕ → ℕ → ℕ → List Check
+arrivalChecks phys permissions phy room space =
     physSize phys
     ++ refuse 1 (differ (length permissions) 2048)
     ∷ refuse 2 (atMost (phyCount phys) phy)
     ∷ refuse 3 (below room 1020)
     ∷ refuse 3 (below space 16)
     ∷ refuse 7 (off (ready phys phy))
-    ∷ refuse 4 (below (length request) 4)
+    ∷ []
+
+-- 4 ("SMP under 4"), 5 ("SMP byte 0 not 40h")
+abbrev pub smpFront : List ℕ → List ℕ → ℕ → List ℕ → ℕ → ℕ → List Check
+smpFront phys permissions phy request room space =
+    arrivalChecks phys permissions phy room space
+    ++ refuse 4 (below (length request) 4)
     ∷ refuse 5 (differ (getD request 0 0) 0x40)
     ∷ []
 

@@ -1,6 +1,9 @@
 // SMP requests: the function byte picks one of three rules.
+use phy_zone::configure_phy_zone;
 use requests::Ruled;
 use wire::PhyNumber;
+use zone_permission::configure_zone_permission;
+use zone_report::report_zone_permission;
 ghost use mathlib.Core.Path.{_≡_};
 ghost use mathlib.Core.List.{[], _∷_, _++_};
 ghost use Prim.Native.Nat.{_≤_, _<_};
@@ -9,7 +12,7 @@ ghost use Rattle.tables.specs.Refusals.{firstRefusal};
 ghost use Rattle.tables.specs.Outcome.{out};
 ghost use Rattle.tables.specs.Phys.{phyCount, emptySet};
 ghost use Rattle.requests.specs.Requests.{Lent, Leaves};
-ghost use Rattle.smp.specs.Smp.{answeredAs, functionOf, smpReply, lengthField, smpChecks, smpOut};
+ghost use Rattle.smp.specs.Smp.{answeredAs, functionOf, smpReply, lengthField, arrivalChecks, smpChecks, smpOut};
 
 pub enum Answered {
     Refused(u8),
@@ -29,16 +32,9 @@ fn length_field(phys: &[u8], permissions: &[u8], phy: PhyNumber, carried: u8, re
     }
 }
 
-pub fn smp_refusal(
-    phys: &[u8],
-    permissions: &[u8],
-    phy: PhyNumber,
-    carried: u8,
-    request: &[u8],
-    room: usize,
-    space: usize,
-) -> u8
-    ensures { λ r. ⌜ r ≡ firstRefusal (smpChecks (now (phys .entry)) (now (permissions .entry)) (phy .0) carried (now (request .entry)) room space) ⌝ }
+// What is checked before the request is looked at.
+fn arrival_refusal(phys: &[u8], permissions: &[u8], phy: PhyNumber, room: usize, space: usize) -> u8
+    ensures { λ r. ⌜ r ≡ firstRefusal (arrivalChecks (now (phys .entry)) (now (permissions .entry)) (phy .0) room space) ⌝ }
 {
     if phys.len() % tables::PHY_RECORD != 0 {
         return 1;
@@ -63,6 +59,24 @@ pub fn smp_refusal(
     }
     if !tables::is_ready(phys, phy) {
         return 7;
+    }
+    0
+}
+
+pub fn smp_refusal(
+    phys: &[u8],
+    permissions: &[u8],
+    phy: PhyNumber,
+    carried: u8,
+    request: &[u8],
+    room: usize,
+    space: usize,
+) -> u8
+    ensures { λ r. ⌜ r ≡ firstRefusal (smpChecks (now (phys .entry)) (now (permissions .entry)) (phy .0) carried (now (request .entry)) room space) ⌝ }
+{
+    let no = arrival_refusal(phys, permissions, phy, room, space);
+    if no != 0 {
+        return no;
     }
     if request.len() < 4 {
         return 4;
@@ -104,33 +118,9 @@ fn rule(
 {
     let function = request[1];
     match function {
-        0x93 => phy_zone::configure_phy_zone(
-            phys,
-            permissions,
-            phy,
-            carried,
-            request,
-            response,
-            set,
-        ),
-        0xc1 => zone_permission::configure_zone_permission(
-            phys,
-            permissions,
-            phy,
-            carried,
-            request,
-            response,
-            set,
-        ),
-        0x51 => zone_report::report_zone_permission(
-            phys,
-            permissions,
-            phy,
-            carried,
-            request,
-            response,
-            set,
-        ),
+        0x93 => configure_phy_zone(phys, permissions, phy, carried, request, response, set),
+        0xc1 => configure_zone_permission(phys, permissions, phy, carried, request, response, set),
+        0x51 => report_zone_permission(phys, permissions, phy, carried, request, response, set),
         _ => unknown_function(function, response, set),
     }
 }

@@ -59,7 +59,9 @@ loop-less : tie.Need-loop-less Inv-loop μ-loop
 loop-less c = omega arith
 
 loop-again : tie.Need-loop-again Inv-loop μ-loop
-loop-again c = search (bytes-again 16)
+loop-again c =
+    let put = c .before .before in
+    bytes-again 16 _ _ _ _ _ _ _ (put .before .before .before .before .loop .inv) (put .put-bits2 .ensures)
 
 same-length : tie.Need-same-length Inv-loop μ-loop
 same-length c = search needs

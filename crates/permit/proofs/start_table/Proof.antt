@@ -3,7 +3,7 @@
 use native.Mathlib.Omega.{arith}
 use borrow.Author.Needs.{needs}
 use lib.ListN.{length-set}
-use Rattle.permit.proofs.StartLaws.{start-sized, start-made}
+use Rattle.permit.proofs.StartLaws.{steps-sized, start-made}
 use Rattle.permit.proofs.start_table.Statement.{statement}
 use Rattle.permit.proofs.start_table.Tie as tie
 
@@ -20,7 +20,7 @@ fill-requires-2 : tie.Need-fill-requires-2
 fill-requires-2 c κs = search needs
 
 same-length : tie.Need-same-length
-same-length c = search (start-sized 16 (omega arith))
+same-length c = search steps-sized
 
 returns : tie.Need-returns
 returns c = search (start-made 16 (omega arith))

@@ -115,8 +115,8 @@ fn frame_refusal(
     0
 }
 
-// Whether phy i is told: it is ready, is not the arriving one, and the source may reach its group. All three are asked of every phy:
-// no phy's answer can be foreseen, and a branch for each costs more than the question.
+// Whether phy i is told: it is ready, is not the arriving one, and the source may reach its group. All three are asked of every phy,
+// so that the time does not hang on who is told.
 fn is_told(phys: &[u8], permissions: &[u8], phy: PhyNumber, source: ZoneGroup, i: usize) -> bool
     requires { ⌜ Shelf (now phys) (now permissions) (source .0) ⌝ }
     ensures { λ r. ⌜ r ≡ told (now (phys .entry)) (now (permissions .entry)) (phy .0) (source .0) i ⌝ }

@@ -47,7 +47,7 @@ fn four_at(bytes: &[u8], at: usize) -> u64
     two_at(bytes, at) * 65536 + two_at(bytes, at + 2)
 }
 
-// The address in the eight bytes from `at` on. By halves and not in a loop, which the compiler makes one load of.
+// The address in the eight bytes from `at` on, by halves.
 pub fn address_at(bytes: &[u8], at: usize) -> u64
     requires { ⌜ at + 8 ≤ length (now bytes) ⌝ }
     ensures { λ r. ⌜ r ≡ addressAt (now (bytes .entry)) at ⌝ }

@@ -1,4 +1,4 @@
--- Broadcasts: which phys are told, case by case and bit by bit of the set; the frame; the calls' own rows after those that both check.
+-- Broadcasts: which phys are told, case by case and bit by bit of the set; the frame; what is known where nothing is refused.
 -- Assumes nothing.
 use mathlib.Core.Path.{_≡_, refl, sym, ap, ap₂, _∙_}
 use mathlib.Core.Bool.{Bool, true, false, not, _&&_}
@@ -7,43 +7,67 @@ use Prim.Native.Nat.{ℕ, zero, suc, _+_, _-_, _*_, _/_, _%_, _≤_, _<_}
 use native.Mathlib.Nat.{zero-add}
 use native.Mathlib.Decide.{ℕ-discrete}
 use native.Mathlib.Omega.{arith}
-use borrow.Author.Tests.{eq-eqb, ne-eqb}
-use lib.Dec.{eqb}
+use borrow.Author.Tests.{eqb-true, leb-true, eq-eqb, ne-eqb}
+use lib.Dec.{eqb, leb}
 use lib.ListN.{length, getD, drop, List·getD-eq-default}
 use Rattle.wire.specs.Groups.{outsideGroup}
 use Rattle.wire.specs.PhySet.{member, setOf, tally, physIn}
 use Rattle.wire.proofs.Sets.{member-setOf, length-setOf, count-front, tally-le, tally-add}
-use Rattle.permit.specs.Permission.{P}
-use Rattle.tables.specs.Refusals.{Check, refuse, below, same, differ, off, firstRefusal}
-use Rattle.tables.specs.Phys.{phyCount, phyByte, phyGroup, participating, ready}
-use Rattle.tables.proofs.RefusalLaws.{front, back, clear}
+use Rattle.permit.specs.Permission.{permissionsSized, P}
+use Rattle.tables.specs.Refusals.{refuse, below, firstRefusal, Clear}
+use Rattle.tables.specs.Phys.{phyCount, phyGroup, ready}
+use Rattle.tables.proofs.ArrivalLaws.{both, Arrived, arrival-clear}
 use Rattle.tables.specs.Outcome.{answer, out}
 use Rattle.tables.proofs.OutcomeLaws.{gives}
 use Rattle.tables.proofs.PhyLaws.{ready-out}
-use Rattle.broadcasts.specs.Inner.{Shelf, Announced}
-use Rattle.broadcasts.specs.Broadcasts.{told, toldSet, frameOf, announced, arrivalChecks, primitiveChecks, frameChecks, typeOf, typedLength}
+use Rattle.broadcasts.specs.Inner.{Lent, Announced}
+use Rattle.broadcasts.specs.Broadcasts.{told, toldSet, frameOf, announced, roomFor, primitiveChecks, frameChecks, typeOf, typedLength}
 
--- ---- the calls' own rows, after those that both check
-module _ (phys permissions : List ℕ) (phy room space r : ℕ) (e : r ≡ firstRefusal (arrivalChecks phys permissions phy room space)) where
-  pub primitive-front : (number : ℕ) → (r ≡ 0 → ⊥) → r ≡ firstRefusal (primitiveChecks phys permissions phy number room space)
-  primitive-front number h = front (arrivalChecks phys permissions phy room space) _ r e h
+-- ---- a frame that is not refused has a type, and so four bytes at least
+pub typed-long : (arrived : List ℕ) → length arrived ≡ typedLength arrived → 2 ≤ typeOf arrived → typeOf arrived ≤ 3 → 4 ≤ length arrived
+unfolding typedLength
+typed-long arrived e l h = go (ℕ-discrete (typeOf arrived) 2)
+  where
+    go : Dec (typeOf arrived ≡ 2) → 4 ≤ length arrived
+    go (yes p) = let q : length arrived ≡ 28 = e ∙ rw (eq-eqb (typeOf arrived) 2 p) in omega arith
+    go (no n) =
+        let p : typeOf arrived ≡ 3 = omega arith in
+        let q : length arrived ≡ 4 = e ∙ rw (ne-eqb (typeOf arrived) 2 n, eq-eqb (typeOf arrived) 3 p) in omega arith
 
-  pub primitive-back : (number n : ℕ) → r ≡ 0 → n ≡ firstRefusal (refuse 5 (below 7 number) ∷ [])
-      → n ≡ firstRefusal (primitiveChecks phys permissions phy number room space)
-  primitive-back number n z en = back (arrivalChecks phys permissions phy room space) _ r n tt e z en
+-- ---- where nothing is refused: r is the number that the checks answered
+module _ (phys permissions : List ℕ) (phy : ℕ) (set frame : List ℕ) (r : ℕ) (z : r ≡ 0) where
+  lent : Arrived phys phy (permissionsSized 16 permissions) (roomFor set frame) → Lent phys permissions phy set frame
+  lent a =
+      let room = both (leb 16 (length set)) (leb 28 (length frame)) (a .roomy) in
+      record {
+        records = a .records;
+        whole = eqb-true _ _ (a .sized);
+        there = a .there;
+        setRoom = leb-true _ _ (room .0);
+        frameRoom = leb-true _ _ (room .1);
+      }
 
-  -- the arriving phy is in the table
-  pub arrival-there : r ≡ 0 → phy < phyCount phys
-  arrival-there z = let k = clear (arrivalChecks phys permissions phy room space) r e z tt in omega arith
+  module _ (number : ℕ) (e : r ≡ firstRefusal (primitiveChecks phys permissions phy number (roomFor set frame))) where
+    primitive-clear : Arrived phys phy (permissionsSized 16 permissions) (roomFor set frame) × Clear (refuse 5 (below 7 number) ∷ [])
+    primitive-clear = arrival-clear phys phy (permissionsSized 16 permissions) (roomFor set frame) true _ r e z tt
 
-  pub frame-front : (arrived : List ℕ) → (r ≡ 0 → ⊥) → r ≡ firstRefusal (frameChecks phys permissions phy arrived room space)
-  frame-front arrived h = front (arrivalChecks phys permissions phy room space) _ r e h
+    pub primitive-lent : Lent phys permissions phy set frame
+    primitive-lent = lent (primitive-clear .0)
 
-  pub frame-back : (arrived : List ℕ) (n : ℕ) → r ≡ 0
-      → n ≡ firstRefusal (refuse 4 (same (length arrived) 0) ∷ refuse 4 (differ (length arrived) (typedLength arrived))
-      ∷ refuse 5 (below (typeOf arrived) 2) ∷ refuse 5 (below 3 (typeOf arrived)) ∷ refuse 6 (off (participating phys phy)) ∷ [])
-      → n ≡ firstRefusal (frameChecks phys permissions phy arrived room space)
-  frame-back arrived n z en = back (arrivalChecks phys permissions phy room space) _ r n tt e z en
+    pub primitive-small : number < 8
+    primitive-small = let k = primitive-clear .1 in omega arith
+
+  module _ (arrived : List ℕ) (e : r ≡ firstRefusal (frameChecks phys permissions phy arrived (roomFor set frame))) where
+    frame-clear : Arrived phys phy (permissionsSized 16 permissions) (roomFor set frame) × (4 ≤ length arrived)
+    frame-clear =
+        let k = arrival-clear phys phy (permissionsSized 16 permissions) (roomFor set frame) true _ r e z tt in
+        (k .0, typed-long arrived (k .1 .1 .0) (k .1 .1 .1 .0) (k .1 .1 .1 .1 .0))
+
+    pub frame-lent : Lent phys permissions phy set frame
+    frame-lent = lent (frame-clear .0)
+
+    pub frame-long : 4 ≤ length arrived
+    frame-long = frame-clear .1
 
 -- ---- whether phy i is told
 module _ (phys permissions : List ℕ) (phy source i : ℕ) where
@@ -137,14 +161,3 @@ module _ (phys permissions : List ℕ) (phy source number : ℕ) (set frame : Li
   pub announce-from : (s count : ℕ) (set₁ frame₁ : List ℕ) → s ≡ source → Announced phys permissions phy s number set frame count set₁ frame₁
       → Announced phys permissions phy source number set frame count set₁ frame₁
   announce-from s count set₁ frame₁ e a = rw (sym e) a
-
--- a frame that is not refused has a type, and so four bytes at least
-pub frame-long : (arrived : List ℕ) → length arrived ≡ typedLength arrived → 2 ≤ typeOf arrived → typeOf arrived ≤ 3 → 4 ≤ length arrived
-unfolding typedLength
-frame-long arrived e l h = go (ℕ-discrete (typeOf arrived) 2)
-  where
-    go : Dec (typeOf arrived ≡ 2) → 4 ≤ length arrived
-    go (yes p) = let q : length arrived ≡ 28 = e ∙ rw (eq-eqb (typeOf arrived) 2 p) in omega arith
-    go (no n) =
-        let p : typeOf arrived ≡ 3 = omega arith in
-        let q : length arrived ≡ 4 = e ∙ rw (ne-eqb (typeOf arrived) 2 n, eq-eqb (typeOf arrived) 3 p) in omega arith

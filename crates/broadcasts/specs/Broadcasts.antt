@@ -1,16 +1,17 @@
 -- "Broadcasts": a primitive, or a broadcast frame, arrives on a phy.
-use mathlib.Core.Bool.{Bool, cond, not, _&&_}
+use mathlib.Core.Bool.{Bool, true, cond, not, _&&_}
 use mathlib.Core.List.{List, [], _∷_, _++_}
 use Prim.Native.Nat.{ℕ, _+_, _*_, _/_, _%_}
-use lib.Dec.{eqb}
+use lib.Dec.{eqb, leb}
 use lib.ListN.{length, getD, drop}
 use Rattle.wire.specs.Bits.{tab}
 use Rattle.wire.specs.Groups.{outsideGroup}
 use Rattle.wire.specs.PhySet.{setOf, physIn}
-use Rattle.permit.specs.Permission.{P}
-use Rattle.tables.specs.Refusals.{Check, refuse, below, atMost, same, differ, off, firstRefusal}
+use Rattle.permit.specs.Permission.{permissionsSized, P}
+use Rattle.tables.specs.Refusals.{Check, refuse, below, same, differ, off, firstRefusal}
 use Rattle.tables.specs.Outcome.{Answer, refusal, answer, Out, outcome}
-use Rattle.tables.specs.Phys.{phyCount, physSize, phyGroup, participating, ready}
+use Rattle.tables.specs.Phys.{phyGroup, participating, ready}
+use Rattle.tables.specs.Arrival.{arrivalChecks}
 use Rattle.broadcasts.specs.declared.Told.{Told}
 use Rattle.broadcasts.specs.declared.Told.the-variants.{Refused, Count}
 
@@ -43,26 +44,19 @@ announced n phys permissions phy source number set frame =
     (set ∷ frame ∷ [])
     ((toldSet phys permissions phy source ++ drop 16 set) ∷ (frameOf number source ++ drop 28 frame) ∷ [])
 
--- refusals 1, 2, 3, 7, which both calls check first; `room` is the size of the phy set, `space` of the frame buffer
-abbrev pub arrivalChecks : List ℕ → List ℕ → ℕ → ℕ → ℕ → List Check
-arrivalChecks phys permissions phy room space =
-    physSize phys
-    ++ refuse 1 (differ (length permissions) 2048)
-    ∷ refuse 2 (atMost (phyCount phys) phy)
-    ∷ refuse 3 (below room 16)
-    ∷ refuse 3 (below space 28)
-    ∷ refuse 7 (off (ready phys phy))
-    ∷ []
+-- "phy set under 16, or frame buffer under 28": whether there is room for both
+abbrev pub roomFor : List ℕ → List ℕ → Bool
+roomFor set frame = leb 16 (length set) && leb 28 (length frame)
 
--- "primitive number over 7"
-abbrev pub primitiveChecks : List ℕ → List ℕ → ℕ → ℕ → ℕ → ℕ → List Check
-primitiveChecks phys permissions phy number room space =
-    arrivalChecks phys permissions phy room space ++ refuse 5 (below 7 number) ∷ []
+-- refusals 1, 2, 3, 7, and 5 ("primitive number over 7")
+abbrev pub primitiveChecks : List ℕ → List ℕ → ℕ → ℕ → Bool → List Check
+primitiveChecks phys permissions phy number room =
+    arrivalChecks phys phy (permissionsSized 16 permissions) room true ++ refuse 5 (below 7 number) ∷ []
 
 -- "The source group of a primitive .. is the phy record's group."
 abbrev pub primitiveOut : List ℕ → List ℕ → ℕ → ℕ → List ℕ → List ℕ → Out
 primitiveOut phys permissions phy number set frame =
-    announced (firstRefusal (primitiveChecks phys permissions phy number (length set) (length frame)))
+    announced (firstRefusal (primitiveChecks phys permissions phy number (roomFor set frame)))
     phys permissions phy (phyGroup phys phy) number set frame
 
 -- "Types are the low 4 bits of byte 0."
@@ -73,10 +67,10 @@ typeOf arrived = getD arrived 0 0 % 16
 unfoldable pub typedLength : List ℕ → ℕ
 typedLength arrived = cond (eqb (typeOf arrived) 2) 28 (cond (eqb (typeOf arrived) 3) 4 (length arrived))
 
--- "broadcast type not 2h or 3h"; "broadcast frame on a phy that is not participating"
-abbrev pub frameChecks : List ℕ → List ℕ → ℕ → List ℕ → ℕ → ℕ → List Check
-frameChecks phys permissions phy arrived room space =
-    arrivalChecks phys permissions phy room space
+-- refusals 1, 2, 3, 7, 4, 5 ("broadcast type not 2h or 3h") and 6 ("broadcast frame on a phy that is not participating")
+abbrev pub frameChecks : List ℕ → List ℕ → ℕ → List ℕ → Bool → List Check
+frameChecks phys permissions phy arrived room =
+    arrivalChecks phys phy (permissionsSized 16 permissions) room true
     ++ refuse 4 (same (length arrived) 0)
     ∷ refuse 4 (differ (length arrived) (typedLength arrived))
     ∷ refuse 5 (below (typeOf arrived) 2)
@@ -94,5 +88,5 @@ frameSource arrived = outsideGroup (getD arrived 3 0)
 
 abbrev pub broadcastOut : List ℕ → List ℕ → ℕ → List ℕ → List ℕ → List ℕ → Out
 broadcastOut phys permissions phy arrived set frame =
-    announced (firstRefusal (frameChecks phys permissions phy arrived (length set) (length frame)))
+    announced (firstRefusal (frameChecks phys permissions phy arrived (roomFor set frame)))
     phys permissions phy (frameSource arrived) (frameNumber arrived) set frame

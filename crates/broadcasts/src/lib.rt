@@ -1,4 +1,5 @@
 // Broadcasts: which phys are told, and the frame that goes to the participating ones.
+use tables::READY;
 use wire::PhyNumber;
 use wire::ZoneGroup;
 ghost use mathlib.Core.Path.{_≡_};
@@ -6,59 +7,22 @@ ghost use mathlib.Core.List.{[], _∷_, _++_};
 ghost use Prim.Native.Nat.{_%_, _<_, _≤_};
 ghost use lib.ListN.{length, drop};
 ghost use Rattle.wire.specs.PhySet.{setByte};
-ghost use Rattle.tables.specs.Refusals.{firstRefusal, Clear};
+ghost use Rattle.tables.specs.Refusals.{firstRefusal};
 ghost use Rattle.tables.specs.Outcome.{out};
 ghost use Rattle.tables.specs.Phys.{phyGroup};
-ghost use Rattle.broadcasts.specs.Broadcasts.{toldAs, told, toldSet, frameOf, frameByte, arrivalChecks, primitiveChecks, primitiveOut, typedLength, frameChecks, frameSource, frameNumber, broadcastOut};
-ghost use Rattle.broadcasts.specs.Inner.{Shelf, Announced};
+ghost use Rattle.broadcasts.specs.Broadcasts.{toldAs, told, toldSet, frameOf, frameByte, primitiveChecks, primitiveOut, typedLength, frameChecks, frameSource, frameNumber, broadcastOut};
+ghost use Rattle.broadcasts.specs.Inner.{Shelf, Lent, Announced};
 
 pub enum Told {
     Refused(u8),
     Count(u8),
 }
 
-// What both calls check first.
-fn arrival_refusal(phys: &[u8], permissions: &[u8], phy: PhyNumber, room: usize, space: usize) -> u8
-    ensures { λ r. ⌜ r ≡ firstRefusal (arrivalChecks (now (phys .entry)) (now (permissions .entry)) (phy .0) room space) ⌝ }
+fn primitive_refusal(phys: &[u8], permissions: &[u8], phy: PhyNumber, number: u8, room: bool) -> u8
+    ensures { λ r. ⌜ r ≡ firstRefusal (primitiveChecks (now (phys .entry)) (now (permissions .entry)) (phy .0) number room) ⌝ }
 {
-    if phys.len() % tables::PHY_RECORD != 0 {
-        return 1;
-    }
-    if phys.len() < tables::PHY_RECORD {
-        return 1;
-    }
-    if 128 * tables::PHY_RECORD < phys.len() {
-        return 1;
-    }
-    if permissions.len() != 2048 {
-        return 1;
-    }
-    if phys.len() / tables::PHY_RECORD <= phy.0 as usize {
-        return 2;
-    }
-    if room < 16 {
-        return 3;
-    }
-    if space < 28 {
-        return 3;
-    }
-    if !tables::is_ready(phys, phy) {
-        return 7;
-    }
-    0
-}
-
-fn primitive_refusal(
-    phys: &[u8],
-    permissions: &[u8],
-    phy: PhyNumber,
-    number: u8,
-    room: usize,
-    space: usize,
-) -> u8
-    ensures { λ r. ⌜ r ≡ firstRefusal (primitiveChecks (now (phys .entry)) (now (permissions .entry)) (phy .0) number room space) ⌝ }
-{
-    let no = arrival_refusal(phys, permissions, phy, room, space);
+    let sizes = permit::permissions_sized(permissions);
+    let no = tables::arrival_refusal(phys, phy, sizes, room, READY);
     if no != 0 {
         return no;
     }
@@ -83,17 +47,11 @@ fn typed_length(arrived: &[u8]) -> usize
     arrived.len()
 }
 
-fn frame_refusal(
-    phys: &[u8],
-    permissions: &[u8],
-    phy: PhyNumber,
-    arrived: &[u8],
-    room: usize,
-    space: usize,
-) -> u8
-    ensures { λ r. ⌜ r ≡ firstRefusal (frameChecks (now (phys .entry)) (now (permissions .entry)) (phy .0) (now (arrived .entry)) room space) ⌝ }
+fn frame_refusal(phys: &[u8], permissions: &[u8], phy: PhyNumber, arrived: &[u8], room: bool) -> u8
+    ensures { λ r. ⌜ r ≡ firstRefusal (frameChecks (now (phys .entry)) (now (permissions .entry)) (phy .0) (now (arrived .entry)) room) ⌝ }
 {
-    let no = arrival_refusal(phys, permissions, phy, room, space);
+    let sizes = permit::permissions_sized(permissions);
+    let no = tables::arrival_refusal(phys, phy, sizes, room, READY);
     if no != 0 {
         return no;
     }
@@ -213,7 +171,7 @@ fn relay_primitive(
     set: &mut [u8],
     frame: &mut [u8],
 ) -> u8
-    requires { ⌜ Clear (primitiveChecks (now phys) (now permissions) (phy .0) number (length (now set)) (length (now frame))) ⌝ }
+    requires { ⌜ Lent (now phys) (now permissions) (phy .0) (now set) (now frame) × (number < 8) ⌝ }
     ensures { λ r. ⌜ Announced (now (phys .entry)) (now (permissions .entry)) (phy .0) (phyGroup (now (phys .entry)) (phy .0)) number (now (set .entry)) (now (frame .entry)) r (now (set .exit)) (now (frame .exit)) ⌝ }
 {
     let source = tables::phy_group(phys, phy);
@@ -229,7 +187,7 @@ fn relay_frame(
     set: &mut [u8],
     frame: &mut [u8],
 ) -> u8
-    requires { ⌜ Clear (frameChecks (now phys) (now permissions) (phy .0) (now arrived) (length (now set)) (length (now frame))) ⌝ }
+    requires { ⌜ Lent (now phys) (now permissions) (phy .0) (now set) (now frame) × (4 ≤ length (now arrived)) ⌝ }
     ensures { λ r. ⌜ Announced (now (phys .entry)) (now (permissions .entry)) (phy .0) (frameSource (now (arrived .entry))) (frameNumber (now (arrived .entry))) (now (set .entry)) (now (frame .entry)) r (now (set .exit)) (now (frame .exit)) ⌝ }
 {
     let source = wire::outside_group(arrived[3]);
@@ -248,7 +206,8 @@ pub fn primitive(
 ) -> Told
     ensures { λ r. ⌜ out (toldAs r) (now (set .exit) ∷ now (frame .exit) ∷ []) ≡ primitiveOut (now (phys .entry)) (now (permissions .entry)) (phy .0) number (now (set .entry)) (now (frame .entry)) ⌝ }
 {
-    let no = primitive_refusal(phys, permissions, phy, number, set.len(), frame.len());
+    let room = (16 <= set.len()) & (28 <= frame.len());
+    let no = primitive_refusal(phys, permissions, phy, number, room);
     if no != 0 {
         return Told::Refused(no);
     }
@@ -266,7 +225,8 @@ pub fn broadcast_frame(
 ) -> Told
     ensures { λ r. ⌜ out (toldAs r) (now (set .exit) ∷ now (frame .exit) ∷ []) ≡ broadcastOut (now (phys .entry)) (now (permissions .entry)) (phy .0) (now (arrived .entry)) (now (set .entry)) (now (frame .entry)) ⌝ }
 {
-    let no = frame_refusal(phys, permissions, phy, arrived, set.len(), frame.len());
+    let room = (16 <= set.len()) & (28 <= frame.len());
+    let no = frame_refusal(phys, permissions, phy, arrived, room);
     if no != 0 {
         return Told::Refused(no);
     }

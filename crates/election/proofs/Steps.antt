@@ -3,15 +3,24 @@
 use mathlib.Core.Path.{_≡_, refl, sym, ap, ap₂, _∙_}
 use mathlib.Core.Bool.{Bool, true, false, not, _&&_}
 use mathlib.Core.List.{List, [], _∷_, _++_}
-use Prim.Native.Nat.{ℕ, suc, _+_, _-_, _≤_, _<_}
+use Prim.Native.Nat.{ℕ, suc, _+_, _-_, _*_, _≤_, _<_}
 use native.Mathlib.Nat.{sub-zero}
 use native.Mathlib.Numerals.{add-one}
 use native.Mathlib.Omega.{arith}
 use borrow.Author.Tests.{lt-ltb, le-ltb, eq-eqb, ne-eqb, not-true, not-false}
 use Rattle.wire.proofs.Loops.{left}
+use lib.ListN.{length}
+use Rattle.tables.specs.Refusals.{firstRefusal}
 use Rattle.tables.specs.Outcome.{answer}
+use Rattle.tables.specs.Phys.{phyRecord, physSized}
+use Rattle.tables.proofs.RefusalLaws.{clear}
+use Rattle.tables.proofs.ArrivalLaws.{phys-records}
 use Rattle.election.specs.declared.Candidate.{Candidate}
-use Rattle.election.specs.Election.{fit, candidate, phyCandidate, phyCandidates, routeCandidate, routeCandidates, beats, better, best, nobody}
+use Rattle.election.specs.Election.{fit, candidate, phyCandidate, phyCandidates, routeCandidate, routeCandidates, beats, better, best, nobody, electChecks}
+
+-- ---- `elect`: where nothing is refused, the phy table has 128 records at most
+pub elect-most : (phys routes : List ℕ) (r : ℕ) → r ≡ firstRefusal (electChecks phys routes) → r ≡ 0 → length phys ≤ 128 * phyRecord
+elect-most phys routes r e z = phys-records phys (not-false (physSized phys) (clear (electChecks phys routes) r e z tt .0)) .1
 
 -- the better of b and the candidate of priority p and address a, as the functions are handed it
 abbrev pub betterOf : Candidate → ℕ → ℕ → Candidate

@@ -5,10 +5,10 @@ use mathlib.Core.List.{List, [], _∷_, _++_, List·Memᴰ}
 use mathlib.Core.Logic.{_⊎_}
 use Prim.Native.Nat.{ℕ, zero, suc}
 use lib.Dec.{eqb, ltb}
-use Rattle.tables.specs.Refusals.{firstRefusal}
+use Rattle.tables.specs.Refusals.{Check, refuse, off, firstRefusal}
 use Rattle.tables.specs.Outcome.{Answer, refusal, answer, Out, outcome}
-use Rattle.tables.specs.Phys.{phyCount, physSize, phyPriority, phyAddress, ready}
-use Rattle.tables.specs.Routes.{routeCount, routesSize, routePriority, routeAddress}
+use Rattle.tables.specs.Phys.{phyCount, physSized, phyPriority, phyAddress, ready}
+use Rattle.tables.specs.Routes.{routeCount, routesSized, routePriority, routeAddress}
 use Rattle.election.specs.declared.Candidate.{Candidate}
 use Rattle.election.specs.declared.Elected.{Elected}
 use Rattle.election.specs.declared.Elected.the-variants.{Refused, Supervisor}
@@ -70,10 +70,14 @@ nobody = record { priority = 0; address = 0 }
 abbrev pub elected : List ℕ → List ℕ → Candidate
 elected phys routes = best nobody (candidates phys routes)
 
--- elect: refusal 1 for either table; nothing is written
+-- elect: refusal 1 for either table
+abbrev pub electChecks : List ℕ → List ℕ → List Check
+electChecks phys routes = refuse 1 (off (physSized phys)) ∷ refuse 1 (off (routesSized routes)) ∷ []
+
+-- nothing is written
 abbrev pub electOut : List ℕ → List ℕ → Out
 electOut phys routes =
-    outcome (firstRefusal (physSize phys ++ routesSize routes))
+    outcome (firstRefusal (electChecks phys routes))
     ((elected phys routes) .priority ∷ (elected phys routes) .address ∷ []) [] []
 
 -- what an election is: a candidate that no candidate beats, or nobody where there is none

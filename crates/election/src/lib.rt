@@ -1,15 +1,17 @@
 // The supervisor's election.
 use tables::PHY_RECORD;
 use tables::ROUTE_RECORD;
+use tables::WRONG_SIZE;
 use wire::PhyNumber;
 ghost use mathlib.Core.Path.{_≡_};
-ghost use mathlib.Core.List.{[], _++_};
-ghost use Prim.Native.Nat.{_<_};
-ghost use Rattle.tables.specs.Refusals.{firstRefusal, Clear};
+ghost use mathlib.Core.List.{[]};
+ghost use Prim.Native.Nat.{_*_, _<_, _≤_};
+ghost use lib.ListN.{length};
+ghost use Rattle.tables.specs.Refusals.{firstRefusal};
 ghost use Rattle.tables.specs.Outcome.{out};
-ghost use Rattle.tables.specs.Phys.{phyCount, physSize};
-ghost use Rattle.tables.specs.Routes.{routeCount, routesSize};
-ghost use Rattle.election.specs.Election.{electedAs, fit, candidate, phyCandidate, phyCandidates, routeCandidate, routeCandidates, better, best, elected, electOut};
+ghost use Rattle.tables.specs.Phys.{phyRecord, phyCount};
+ghost use Rattle.tables.specs.Routes.{routeCount};
+ghost use Rattle.election.specs.Election.{electedAs, fit, candidate, phyCandidate, phyCandidates, routeCandidate, routeCandidates, better, best, elected, electChecks, electOut};
 
 // The best candidate so far. Two fields of one size: a gap between them would be copied at each step.
 pub struct Candidate {
@@ -25,22 +27,13 @@ pub enum Elected {
 
 // The refusals of an election: the sizes of both tables.
 fn elect_refusal(phys: &[u8], routes: &[u8]) -> u8
-    ensures { λ r. ⌜ r ≡ firstRefusal (physSize (now (phys .entry)) ++ routesSize (now (routes .entry))) ⌝ }
+    ensures { λ r. ⌜ r ≡ firstRefusal (electChecks (now (phys .entry)) (now (routes .entry))) ⌝ }
 {
-    if phys.len() % PHY_RECORD != 0 {
-        return 1;
+    if !tables::phys_sized(phys) {
+        return WRONG_SIZE;
     }
-    if phys.len() < PHY_RECORD {
-        return 1;
-    }
-    if 128 * PHY_RECORD < phys.len() {
-        return 1;
-    }
-    if routes.len() % ROUTE_RECORD != 0 {
-        return 1;
-    }
-    if 1024 * ROUTE_RECORD < routes.len() {
-        return 1;
+    if !tables::routes_sized(routes) {
+        return WRONG_SIZE;
     }
     0
 }
@@ -116,7 +109,7 @@ fn with_route(b: Candidate, routes: &[u8], i: usize) -> Candidate
 
 // The best of b and the phy table.
 fn elect_phys(b: Candidate, phys: &[u8]) -> Candidate
-    requires { ⌜ Clear (physSize (now phys)) ⌝ }
+    requires { ⌜ length (now phys) ≤ 128 * phyRecord ⌝ }
     ensures { λ r. ⌜ r ≡ best b (phyCandidates (now (phys .entry)) 0 (phyCount (now (phys .entry)))) ⌝ }
 {
     let count = phys.len() / PHY_RECORD;
@@ -145,7 +138,7 @@ fn elect_routes(b: Candidate, routes: &[u8]) -> Candidate
 
 // The phy table's best is carried into the route table.
 fn elect_both(phys: &[u8], routes: &[u8]) -> Candidate
-    requires { ⌜ Clear (physSize (now phys) ++ routesSize (now routes)) ⌝ }
+    requires { ⌜ length (now phys) ≤ 128 * phyRecord ⌝ }
     ensures { λ r. ⌜ r ≡ elected (now (phys .entry)) (now (routes .entry)) ⌝ }
 {
     let nobody = Candidate {

@@ -6,7 +6,7 @@ use mathlib.Core.List.{List}
 use Prim.Native.Nat.{ℕ, _+_, _*_, _≤_, _<_}
 use native.Mathlib.Numerals.{add-one}
 use native.Mathlib.Omega.{arith}
-use borrow.Author.Tests.{not-true, not-false}
+use borrow.Author.Tests.{eqb-true, not-true, not-false}
 use lib.Dec.{eqb}
 use lib.ListN.{length, getD, set, length-set}
 use lib.Seq.{paste, paste-zero, paste-suc}
@@ -17,7 +17,7 @@ use Rattle.links.specs.Links.{startUpChecks, unzoned, identified}
 
 -- ---- `start_up`: where nothing is refused, the table has its size
 pub sized : (permissions : List ℕ) (r : ℕ) → r ≡ firstRefusal (startUpChecks permissions) → r ≡ 0 → length permissions ≡ 2048
-sized permissions r e z = clear (startUpChecks permissions) r e z tt .0
+sized permissions r e z = eqb-true _ _ (not-false _ (clear (startUpChecks permissions) r e z tt .0))
 
 -- ---- rows on an address: the callee's result x is v, and x was tested
 pub same-as : {x v w : ℕ} → x ≡ v → x ≡ w → v ≡ w

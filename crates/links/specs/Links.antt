@@ -1,15 +1,16 @@
 -- Start-up, and "Links": a phy leaves the ready state, or IDENTIFY arrives.
-use mathlib.Core.Bool.{Bool, cond, not, _&&_}
+use mathlib.Core.Bool.{Bool, true, false, cond, not, _&&_}
 use mathlib.Core.List.{List, [], _∷_, _++_}
 use Prim.Native.Nat.{ℕ, _+_, _*_, _/_, _%_}
 use lib.Dec.{eqb}
-use lib.ListN.{length, set}
+use lib.ListN.{set}
 use lib.Seq.{paste}
 use Rattle.wire.specs.Address.{addressAt}
-use Rattle.tables.specs.Refusals.{Check, refuse, atMost, same, differ, off, on, firstRefusal}
+use Rattle.tables.specs.Refusals.{Check, refuse, same, off, firstRefusal}
 use Rattle.tables.specs.Outcome.{Answer, refusal, answer, Out, outcome}
-use Rattle.tables.specs.Phys.{phyRecord, phyCount, physSize, phyByte, phyAddress, ready, known, zoned}
-use Rattle.permit.specs.Permission.{startTable}
+use Rattle.tables.specs.Phys.{phyRecord, phyByte, phyAddress, known, zoned}
+use Rattle.tables.specs.Arrival.{arrivalChecks}
+use Rattle.permit.specs.Permission.{permissionsSized, startTable}
 use Rattle.links.specs.declared.Linked.{Linked}
 use Rattle.links.specs.declared.Linked.the-variants.{Refused, Done}
 
@@ -18,21 +19,17 @@ abbrev pub linkedAs : Linked → Answer
 linkedAs (Refused n) = refusal n
 linkedAs Done = answer []
 
--- start-up: refusal 1; "Permission table: 2,048 bytes"
+-- start-up: refusal 1
 abbrev pub startUpChecks : List ℕ → List Check
-startUpChecks permissions = refuse 1 (differ (length permissions) 2048) ∷ []
+startUpChecks permissions = refuse 1 (off (permissionsSized 16 permissions)) ∷ []
 
 -- "Start-up writes the permission table"; the buffers: the permission table
 abbrev pub startUpOut : List ℕ → Out
 startUpOut permissions = outcome (firstRefusal (startUpChecks permissions)) [] (permissions ∷ []) (startTable 16 ∷ [])
 
--- leaving: refusals 1, 2, 7
+-- leaving: refusals 1, 2, 7; it uses no other table and writes no buffer
 abbrev pub leavingChecks : List ℕ → ℕ → List Check
-leavingChecks phys phy =
-    physSize phys
-    ++ refuse 2 (atMost (phyCount phys) phy)
-    ∷ refuse 7 (off (ready phys phy))
-    ∷ []
+leavingChecks phys phy = arrivalChecks phys phy true true true
 
 -- "Leaving ready clears bit 0 of byte 2 and keeps bit 1." "Both write bits 7 to 2 of byte 2 as zero." "Byte 3 stays."
 abbrev pub left : List ℕ → ℕ → List ℕ
@@ -42,13 +39,9 @@ left phys phy = set phys (phyRecord * phy + 2) (phyByte phys phy 2 / 2 % 2 * 2)
 abbrev pub leavingOut : List ℕ → ℕ → Out
 leavingOut phys phy = outcome (firstRefusal (leavingChecks phys phy)) [] (phys ∷ []) (left phys phy ∷ [])
 
--- IDENTIFY: refusals 1, 2, 7 ("for IDENTIFY, already ready")
+-- IDENTIFY: refusals 1, 2, 7 ("for IDENTIFY, already ready"); it uses no other table and writes no buffer
 abbrev pub identifyFront : List ℕ → ℕ → List Check
-identifyFront phys phy =
-    physSize phys
-    ++ refuse 2 (atMost (phyCount phys) phy)
-    ∷ refuse 7 (on (ready phys phy))
-    ∷ []
+identifyFront phys phy = arrivalChecks phys phy true true false
 
 -- and 5 ("IDENTIFY address zero")
 abbrev pub identifyChecks : List ℕ → ℕ → List ℕ → List Check

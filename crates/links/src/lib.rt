@@ -1,5 +1,8 @@
 // Start-up, and link events: which group a disk is in after a cable is moved.
+use tables::NOT_READY;
 use tables::PHY_RECORD;
+use tables::READY;
+use tables::WRONG_SIZE;
 use wire::PhyNumber;
 ghost use mathlib.Core.Path.{_≡_};
 ghost use mathlib.Core.List.{[], _∷_};
@@ -7,20 +10,12 @@ ghost use Prim.Native.Nat.{_+_, _<_, _≤_};
 ghost use lib.ListN.{length};
 ghost use lib.Seq.{paste};
 ghost use Rattle.tables.specs.Phys.{phyCount};
-ghost use Rattle.tables.specs.Refusals.{firstRefusal, Clear};
+ghost use Rattle.tables.specs.Refusals.{firstRefusal};
 ghost use Rattle.tables.specs.Outcome.{out};
-ghost use Rattle.links.specs.Links.{linkedAs, startUpChecks, startUpOut, leavingChecks, left, leavingOut, identifyChecks, moved, unzoned, identified, identifyOut};
+ghost use Rattle.links.specs.Links.{linkedAs, startUpChecks, startUpOut, left, leavingOut, identifyChecks, moved, unzoned, identified, identifyOut};
 
-// Document 01's numbers for what these calls refuse.
-const WRONG_SIZE: u8 = 1;
-
-const NO_SUCH_PHY: u8 = 2;
-
+// Document 01's number.
 const ADDRESS_ZERO: u8 = 5;
-
-const NOT_READY: u8 = 7;
-
-const ALREADY_READY: u8 = 7;
 
 pub enum Linked {
     Refused(u8),
@@ -31,7 +26,7 @@ pub enum Linked {
 fn start_up_refusal(permissions: &[u8]) -> u8
     ensures { λ r. ⌜ r ≡ firstRefusal (startUpChecks (now (permissions .entry))) ⌝ }
 {
-    if permissions.len() != 2048 {
+    if !permit::permissions_sized(permissions) {
         return WRONG_SIZE;
     }
     0
@@ -49,32 +44,9 @@ pub fn start_up(permissions: &mut [u8]) -> Linked
     Linked::Done
 }
 
-// The refusals of leaving, in document 01's order.
-fn leaving_refusal(phys: &[u8], phy: PhyNumber) -> u8
-    ensures { λ r. ⌜ r ≡ firstRefusal (leavingChecks (now (phys .entry)) (phy .0)) ⌝ }
-{
-    if phys.len() % PHY_RECORD != 0 {
-        return WRONG_SIZE;
-    }
-    if phys.len() < PHY_RECORD {
-        return WRONG_SIZE;
-    }
-    if 128 * PHY_RECORD < phys.len() {
-        return WRONG_SIZE;
-    }
-    let i = phy.0 as usize;
-    if phys.len() / PHY_RECORD <= i {
-        return NO_SUCH_PHY;
-    }
-    if !tables::is_ready(phys, phy) {
-        return NOT_READY;
-    }
-    0
-}
-
 // Byte 2 keeps only that the address is known: the disk may come back.
 fn leave(phys: &mut [u8], phy: PhyNumber)
-    requires { ⌜ Clear (leavingChecks (now phys) (phy .0)) ⌝ }
+    requires { ⌜ phy .0 < phyCount (now phys) ⌝ }
     ensures { λ _. ⌜ now (phys .exit) ≡ left (now (phys .entry)) (phy .0) ⌝ }
 {
     let i = phy.0 as usize;
@@ -86,7 +58,7 @@ fn leave(phys: &mut [u8], phy: PhyNumber)
 pub fn leaving(phys: &mut [u8], phy: PhyNumber) -> Linked
     ensures { λ r. ⌜ out (linkedAs r) (now (phys .exit) ∷ []) ≡ leavingOut (now (phys .entry)) (phy .0) ⌝ }
 {
-    let no = leaving_refusal(phys, phy);
+    let no = tables::arrival_refusal(phys, phy, true, true, READY);
     if no != 0 {
         return Linked::Refused(no);
     }
@@ -95,24 +67,12 @@ pub fn leaving(phys: &mut [u8], phy: PhyNumber) -> Linked
 }
 
 // The refusals of IDENTIFY, in document 01's order.
-pub fn identify_refusal(phys: &[u8], phy: PhyNumber, address: &[u8; 8]) -> u8
+fn identify_refusal(phys: &[u8], phy: PhyNumber, address: &[u8; 8]) -> u8
     ensures { λ r. ⌜ r ≡ firstRefusal (identifyChecks (now (phys .entry)) (phy .0) (now (address .entry))) ⌝ }
 {
-    if phys.len() % PHY_RECORD != 0 {
-        return WRONG_SIZE;
-    }
-    if phys.len() < PHY_RECORD {
-        return WRONG_SIZE;
-    }
-    if 128 * PHY_RECORD < phys.len() {
-        return WRONG_SIZE;
-    }
-    let i = phy.0 as usize;
-    if phys.len() / PHY_RECORD <= i {
-        return NO_SUCH_PHY;
-    }
-    if tables::is_ready(phys, phy) {
-        return ALREADY_READY;
+    let no = tables::arrival_refusal(phys, phy, true, true, NOT_READY);
+    if no != 0 {
+        return no;
     }
     if wire::address_at(address, 0) == 0 {
         return ADDRESS_ZERO;
@@ -155,7 +115,7 @@ fn store_address(phys: &mut [u8], at: usize, address: &[u8])
 
 // Byte 2 says ready, address known.
 fn attach(phys: &mut [u8], phy: PhyNumber, address: &[u8; 8])
-    requires { ⌜ Clear (identifyChecks (now phys) (phy .0) (now address)) ⌝ }
+    requires { ⌜ phy .0 < phyCount (now phys) ⌝ }
     ensures { λ _. ⌜ now (phys .exit) ≡ identified (now (phys .entry)) (phy .0) (now (address .entry)) ⌝ }
 {
     let i = phy.0 as usize;

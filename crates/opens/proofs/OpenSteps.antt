@@ -1,12 +1,12 @@
 -- The ways out of the functions that judge and write a frame.
 -- Assumes nothing.
 use mathlib.Core.Path.{_≡_, refl, sym, ap, _∙_}
-use mathlib.Core.Bool.{Bool, true, false, cond, not}
+use mathlib.Core.Bool.{Bool, true, false, cond, not, _&&_}
 use mathlib.Core.List.{List, [], _∷_, _++_}
 use Prim.Native.Nat.{ℕ, _+_, _*_, _/_, _%_, _<_, _≤_}
 use native.Mathlib.Nat.{zero-add}
 use native.Mathlib.Omega.{arith}
-use borrow.Author.Tests.{eq-eqb, ne-eqb, lt-ltb, le-ltb, not-true, not-false}
+use borrow.Author.Tests.{eqb-true, leb-true, eq-eqb, ne-eqb, lt-ltb, le-ltb, not-true, not-false}
 use mir.Syntax.{w8}
 use mir.Val.{Fits}
 use lib.Dec.{eqb}
@@ -14,19 +14,21 @@ use lib.ListN.{length, getD, set, drop}
 use lib.Seq.{set-append-left, ext-getD}
 use Rattle.wire.specs.Bits.{tab}
 use Rattle.wire.proofs.Loops.{length-tab, getD-tab, Filled, fill-end}
-use Rattle.permit.specs.Permission.{P}
+use Rattle.permit.specs.Permission.{permissionsSized, P}
 use Rattle.tables.specs.Refusals.{firstRefusal}
 use Rattle.tables.specs.Outcome.{answer, out}
 use Rattle.tables.proofs.OutcomeLaws.{gives}
+use Rattle.tables.proofs.ArrivalLaws.{both, Arrived, arrival-clear}
 use Rattle.wire.specs.declared.PhyNumber.{PhyNumber}
 use Rattle.wire.specs.declared.ZoneGroup.{ZoneGroup}
-use Rattle.tables.specs.Phys.{phyCount, phyGroup, phyPriority, participating, ready}
+use Rattle.tables.specs.Phys.{phyRecord, phyCount, phyGroup, phyPriority, participating, ready}
+use Rattle.tables.specs.Routes.{routesSized}
 use Rattle.opens.specs.declared.Found.{Found}
 use Rattle.opens.specs.declared.Found.the-variants.{At, Nothing}
 use Rattle.opens.specs.declared.Opened.{Opened}
 use Rattle.opens.specs.declared.Opened.the-variants.{NoDestination, BadDestination, ZoneViolation, Forward}
 use Rattle.opens.specs.Search.{usable, search}
-use Rattle.opens.specs.Open.{valuesOf, openedAs, openChecks, openSource, judge, byte20, sent, openOut}
+use Rattle.opens.specs.Open.{valuesOf, openedAs, roomFor, openChecks, openSource, judge, byte20, sent, openOut}
 use Rattle.opens.proofs.OpenLaws.{source-lt}
 
 -- ---- is_usable
@@ -120,7 +122,28 @@ judged phys permissions phy frame Nothing = refl
 judged phys permissions phy frame (At p g) = answered (eqb (p .0) phy) (P 16 permissions (openSource phys phy frame) (g .0)) p
 
 -- n is the number that the checks answered, f what the search gave
-module _ (phys routes permissions : List ℕ) (phy : ℕ) (frame buffer : List ℕ) (n : ℕ) (e : n ≡ firstRefusal (openChecks phys routes permissions phy frame (length buffer))) (z : n ≡ 0) where
+module _ (phys routes permissions : List ℕ) (phy : ℕ) (frame buffer : List ℕ) (n : ℕ) (e : n ≡ firstRefusal (openChecks phys routes permissions phy frame (roomFor buffer))) (z : n ≡ 0) where
+  -- where nothing is refused
+  clears : Arrived phys phy (routesSized routes && permissionsSized 16 permissions) (roomFor buffer) × (length frame ≡ 28)
+  clears =
+      let k = arrival-clear phys phy (routesSized routes && permissionsSized 16 permissions) (roomFor buffer) true _ n e z tt in
+      (k .0, k .1 .0)
+
+  pub open-most : length phys ≤ 128 * phyRecord
+  open-most = clears .0 .most
+
+  pub open-there : phy < phyCount phys
+  open-there = clears .0 .there
+
+  pub open-whole : length permissions ≡ 2048
+  open-whole = eqb-true _ _ (both (routesSized routes) (permissionsSized 16 permissions) (clears .0 .sized) .1)
+
+  pub open-frame : length frame ≡ 28
+  open-frame = clears .1
+
+  pub open-room : 28 ≤ length buffer
+  open-room = leb-true _ _ (clears .0 .roomy)
+
   module _ (f : Found) (ef : f ≡ search phys routes frame) where
     pub open-none : f ≡ Nothing → out (openedAs NoDestination) (buffer ∷ []) ≡ openOut phys routes permissions phy frame buffer
     unfolding judge sent

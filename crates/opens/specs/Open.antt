@@ -1,16 +1,17 @@
 -- "OPEN": "Byte 0 bits 3..0 type 1h; 4-11 destination; 12-19 source; byte 20 bit 7 ACCESS ZONE MANAGEMENT, bits 6..0 SOURCE ZONE GROUP".
-use mathlib.Core.Bool.{cond}
+use mathlib.Core.Bool.{Bool, true, cond, _&&_}
 use mathlib.Core.List.{List, [], _∷_, _++_}
 use Prim.Native.Nat.{ℕ, _+_, _*_, _/_, _%_}
-use lib.Dec.{eqb, ltb}
+use lib.Dec.{eqb, ltb, leb}
 use lib.ListN.{length, getD, set, drop}
 use Rattle.wire.specs.Bits.{num}
 use Rattle.wire.specs.Groups.{groupOf}
-use Rattle.permit.specs.Permission.{P}
-use Rattle.tables.specs.Refusals.{Check, refuse, below, atMost, differ, off, firstRefusal}
+use Rattle.permit.specs.Permission.{permissionsSized, P}
+use Rattle.tables.specs.Refusals.{Check, refuse, differ, firstRefusal}
 use Rattle.tables.specs.Outcome.{Answer, refusal, answer, Out, outcome}
-use Rattle.tables.specs.Phys.{phyCount, physSize, phyGroup, phyPriority, participating, ready}
-use Rattle.tables.specs.Routes.{routesSize}
+use Rattle.tables.specs.Phys.{phyGroup, phyPriority, participating}
+use Rattle.tables.specs.Routes.{routesSized}
+use Rattle.tables.specs.Arrival.{arrivalChecks}
 use Rattle.opens.specs.declared.Found.{Found}
 use Rattle.opens.specs.declared.Found.the-variants.{At, Nothing}
 use Rattle.opens.specs.declared.Opened.{Opened}
@@ -32,19 +33,15 @@ openedAs BadDestination = answer (valuesOf BadDestination)
 openedAs ZoneViolation = answer (valuesOf ZoneViolation)
 openedAs (Forward p) = answer (valuesOf (Forward p))
 
--- refusal 1: "a table the call uses has a size not named above"
-abbrev pub tableChecks : List ℕ → List ℕ → List ℕ → List Check
-tableChecks phys routes permissions =
-    physSize phys ++ routesSize routes ++ refuse 1 (differ (length permissions) 2048) ∷ []
+-- "frame buffer under 28": whether there is room for a frame
+abbrev pub roomFor : List ℕ → Bool
+roomFor buffer = leb 28 (length buffer)
 
--- refusals 1, 2, 3, 7, 4, 5; `room` is the size of the frame buffer
-abbrev pub openChecks : List ℕ → List ℕ → List ℕ → ℕ → List ℕ → ℕ → List Check
+-- refusals 1, 2, 3, 7, and 4 ("OPEN not 28"), 5 ("OPEN type not 1h")
+abbrev pub openChecks : List ℕ → List ℕ → List ℕ → ℕ → List ℕ → Bool → List Check
 openChecks phys routes permissions phy frame room =
-    tableChecks phys routes permissions
-    ++ refuse 2 (atMost (phyCount phys) phy)
-    ∷ refuse 3 (below room 28)
-    ∷ refuse 7 (off (ready phys phy))
-    ∷ refuse 4 (differ (length frame) 28)
+    arrivalChecks phys phy (routesSized routes && permissionsSized 16 permissions) room true
+    ++ refuse 4 (differ (length frame) 28)
     ∷ refuse 5 (differ (getD frame 0 0 % 16) 1)
     ∷ []
 
@@ -83,7 +80,7 @@ sent phys phy frame buffer (Forward p) = set frame 20 (byte20 phys phy frame (p 
 -- the buffers: the frame buffer
 abbrev pub openOut : List ℕ → List ℕ → List ℕ → ℕ → List ℕ → List ℕ → Out
 openOut phys routes permissions phy frame buffer =
-    outcome (firstRefusal (openChecks phys routes permissions phy frame (length buffer)))
+    outcome (firstRefusal (openChecks phys routes permissions phy frame (roomFor buffer)))
     (valuesOf (opened phys routes permissions phy frame))
     (buffer ∷ [])
     (sent phys phy frame buffer (opened phys routes permissions phy frame) ∷ [])

@@ -1,5 +1,6 @@
 // OPEN frames: the gate through which a host reaches a disk.
 use tables::PHY_RECORD;
+use tables::READY;
 use tables::ROUTE_RECORD;
 use wire::PhyNumber;
 use wire::ZoneGroup;
@@ -13,7 +14,7 @@ ghost use Rattle.tables.specs.Routes.{routeCount};
 ghost use Rattle.tables.specs.Outcome.{out};
 ghost use Rattle.opens.specs.Search.{zeroBytes, usable, findPhy, findRoute, search};
 ghost use Rattle.opens.specs.declared.Found.the-variants.{At};
-ghost use Rattle.opens.specs.Open.{openedAs, tableChecks, openChecks, openSource, judge, byte20, sent, openOut};
+ghost use Rattle.opens.specs.Open.{openedAs, openChecks, openSource, judge, byte20, sent, openOut};
 
 // What a search yields: the phy to go out on, and the destination's group.
 pub enum Found {
@@ -29,54 +30,21 @@ pub enum Opened {
     Forward(PhyNumber),
 }
 
-// Refusal 1.
-fn table_refusal(phys: &[u8], routes: &[u8], permissions: &[u8]) -> u8
-    ensures { λ r. ⌜ r ≡ firstRefusal (tableChecks (now (phys .entry)) (now (routes .entry)) (now (permissions .entry))) ⌝ }
-{
-    if phys.len() % PHY_RECORD != 0 {
-        return 1;
-    }
-    if phys.len() < PHY_RECORD {
-        return 1;
-    }
-    if 128 * PHY_RECORD < phys.len() {
-        return 1;
-    }
-    if routes.len() % ROUTE_RECORD != 0 {
-        return 1;
-    }
-    if 1024 * ROUTE_RECORD < routes.len() {
-        return 1;
-    }
-    if permissions.len() != 2048 {
-        return 1;
-    }
-    0
-}
-
-// The number of the refusal, or 0; `room` is the size of the frame buffer.
+// The number of the refusal, or 0.
 fn open_refusal(
     phys: &[u8],
     routes: &[u8],
     permissions: &[u8],
     phy: PhyNumber,
     frame: &[u8],
-    room: usize,
+    room: bool,
 ) -> u8
     ensures { λ r. ⌜ r ≡ firstRefusal (openChecks (now (phys .entry)) (now (routes .entry)) (now (permissions .entry)) (phy .0) (now (frame .entry)) room) ⌝ }
 {
-    let no = table_refusal(phys, routes, permissions);
+    let sizes = tables::routes_sized(routes) & permit::permissions_sized(permissions);
+    let no = tables::arrival_refusal(phys, phy, sizes, room, READY);
     if no != 0 {
         return no;
-    }
-    if phys.len() / PHY_RECORD <= phy.0 as usize {
-        return 2;
-    }
-    if room < 28 {
-        return 3;
-    }
-    if !tables::is_ready(phys, phy) {
-        return 7;
     }
     if frame.len() != 28 {
         return 4;
@@ -268,7 +236,7 @@ pub fn open(
 ) -> Opened
     ensures { λ r. ⌜ out (openedAs r) (now (buffer .exit) ∷ []) ≡ openOut (now (phys .entry)) (now (routes .entry)) (now (permissions .entry)) (phy .0) (now (frame .entry)) (now (buffer .entry)) ⌝ }
 {
-    let no = open_refusal(phys, routes, permissions, phy, frame, buffer.len());
+    let no = open_refusal(phys, routes, permissions, phy, frame, 28 <= buffer.len());
     if no != 0 {
         return Opened::Refused(no);
     }

@@ -14,7 +14,7 @@ use lib.ListN.{length}
 use Rattle.wire.proofs.Loops.{left}
 use Rattle.permit.specs.Permission.{groups, tableSize, P, setBoth, startTable}
 use Rattle.permit.specs.Orders.{Order, order, apply, rowOrders, batchOrders}
-use Rattle.permit.specs.History.{names, Zone, Valid, latest, Silent, History}
+use Rattle.permit.specs.History.{names, Zone, Valid, latest, Silent, HistoryOfOrders}
 use Rattle.permit.proofs.Laws.{P-both, P-start, Bytes, bytes-both, length-setBoth, length-start, Mutual, mutual-both, mutual-start, names-swap}
 
 -- ---- `latest` is the latest
@@ -108,7 +108,7 @@ pair-says w os ok c d zc zd =
     P-apply w os (within w os ok) (startTable w) (length-start w) c d (zd .1)
     ∙ ap (latest os c d) (P-start w c d (zc .1) (zd .1) ∙ rw (ne-eqb c 1 (λ e. omega arith), ne-eqb d 1 (λ e. omega arith)))
 
-pub history : History
+pub history : HistoryOfOrders
 history w os ok = record {
   bothWays = mutual-apply w os (within w os ok) (startTable w) (length-start w) (mutual-start w);
   low = λ c d hc hd h. low-kept w os ok (startTable w) (length-start w) c d hd h;

@@ -43,5 +43,5 @@ pub record Says (w : ℕ) (t : List ℕ) (os : List Order) : Type 0 where
   pub unordered : (c d : ℕ) → Zone w c → Zone w d → Silent os c d → P w t c d ≡ false
 
 -- demand 3, of the orders alone: after any list of orders from start-up
-abbrev pub History : Type 0
-History = (w : ℕ) (os : List Order) → Valid w os → Says w (apply w os (startTable w)) os
+abbrev pub HistoryOfOrders : Type 0
+HistoryOfOrders = (w : ℕ) (os : List Order) → Valid w os → Says w (apply w os (startTable w)) os

@@ -16,6 +16,10 @@ groups w = 8 * w
 abbrev pub tableSize : ℕ → ℕ
 tableSize w = groups w * w
 
+-- "Permission table: 2,048 bytes"
+abbrev pub permissionsSized : ℕ → List ℕ → Bool
+permissionsSized w permissions = eqb (length permissions) (tableSize w)
+
 -- "row a at byte 16a. In a row, group j is bit j mod 8 of byte 15 - j/8 (whole division)." The byte of group j in row a:
 unfoldable pub place : ℕ → ℕ → ℕ → ℕ
 place w a j = a * w + (w - 1 - j / 8)

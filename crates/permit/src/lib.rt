@@ -6,7 +6,7 @@ ghost use lib.Dec.{eqb};
 ghost use lib.ListN.{length, drop};
 ghost use lib.Seq.{paste};
 ghost use Rattle.wire.specs.Bits.{bit};
-ghost use Rattle.permit.specs.Permission.{P, setP, setBoth, startTable, Whole};
+ghost use Rattle.permit.specs.Permission.{permissionsSized, P, setP, setBoth, startTable, Whole};
 ghost use Rattle.permit.specs.Orders.{apply, rowOrders, batchOrders};
 ghost use Rattle.permit.specs.Rows.{Masked, RowIs, ColumnIs, ColumnTo, byteHas};
 ghost use Rattle.permit.specs.Start.{Between, rowAgain};
@@ -26,6 +26,13 @@ fn mask(group: usize) -> u8
         6 => 64,
         _ => 128,
     }
+}
+
+// Whether the table has the size of a permission table.
+pub fn permissions_sized(permissions: &[u8]) -> bool
+    ensures { λ r. ⌜ r ≡ permissionsSized 16 (now (permissions .entry)) ⌝ }
+{
+    permissions.len() == 2048
 }
 
 // Group `group` of row `row` in any rows of sixteen bytes, the table's or a request's.

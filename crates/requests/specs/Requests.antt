@@ -40,14 +40,14 @@ abbrev pub responseOf : ℕ → Reply → List ℕ
 responseOf function p = 0x41 ∷ function ∷ p .result ∷ length (p .rest) / 4 ∷ p .rest
 
 -- what a rule's function may build on: right sizes, an arriving phy in the table, and room
-pub record Lent (phys permissions : List ℕ) (phy asked room space : ℕ) : Type 0 where
+pub record Lent (phys permissions : List ℕ) (phy requestSize responseSize setSize : ℕ) : Type 0 where
   pub records : length phys % phyRecord ≡ 0
   pub most : length phys ≤ 128 * phyRecord
   pub whole : length permissions ≡ 2048
   pub there : phy < phyCount phys
-  pub head : 4 ≤ asked
-  pub roomy : 1020 ≤ room
-  pub spaced : 16 ≤ space
+  pub head : 4 ≤ requestSize
+  pub responseRoom : 1020 ≤ responseSize
+  pub setRoom : 16 ≤ setSize
 
 -- what a rule's function leaves: its result and how many response bytes it wrote, both tables, the response buffer and the phy set,
 -- where `response` and `set` were handed in. "output bytes beyond those named stay unchanged"

@@ -30,7 +30,7 @@ use Rattle.opens.specs.Open.{valuesOf, openSource, opened, openOut}
 use Rattle.opens.proofs.OpenLaws as opens
 use Rattle.broadcasts.specs.Broadcasts.{toldSet, frameSource, primitiveOut, broadcastOut}
 use Rattle.broadcasts.proofs.BroadcastLaws as broadcasts
-use Rattle.smp.specs.Smp.{smpChecks, smpReply, smpOut, acceptedOrders}
+use Rattle.smp.specs.Smp.{roomFor, smpChecks, smpReply, smpOut, acceptedOrders}
 use Rattle.smp.proofs.SmpLaws.{permissionsAfter, orders-applied, orders-valid}
 use Rattle.shelf.specs.Calls.{Call, startUp, leaving, identify, elect, opening, primitive, broadcastFrame, smp, outcomeOf, answerOf, bufferOf, after, accepted, kept, run, orders}
 use Rattle.shelf.specs.Promises.{History, NoOpen, NoBroadcast}
@@ -57,10 +57,10 @@ second (suc n) values a b os c d ns = rw (ne-eqb (suc n) 0 (λ z. omega arith))
 
 -- the permission table is the one in the call's contract
 smp-table : (phys t : List ℕ) (phy carried : ℕ) (request response set : List ℕ)
-    → bufferOf 1 (smpOut phys t phy carried request response set) ≡ permissionsAfter phys t phy carried request (length response) (length set)
+    → bufferOf 1 (smpOut phys t phy carried request response set) ≡ permissionsAfter phys t phy carried request (roomFor response set)
 unfolding permissionsAfter
 smp-table phys t phy carried request response set =
-    second (firstRefusal (smpChecks phys t phy carried request (length response) (length set))) _ _ _ _ _ _ _
+    second (firstRefusal (smpChecks phys t phy carried request (roomFor response set))) _ _ _ _ _ _ _
 
 start-table : (t : List ℕ) → length t ≡ 2048 → bufferOf 0 (startUpOut t) ≡ startTable 16
 unfolding outcome firstRefusal
@@ -70,9 +70,13 @@ length-made : (t : List ℕ) (os : List Order) → Made t os → length t ≡ 20
 length-made t os m = ap length (m .made) ∙ length-apply 16 os (startTable 16) ∙ length-start 16
 
 -- start-up of a table of its size begins the history afresh
+afresh : (t : List ℕ) (os : List Order) → length t ≡ 2048 → kept startUp t os ++ accepted startUp t ≡ []
+unfolding kept accepted
+afresh t os e = rw (eq-eqb (length t) 2048 e)
+
 begins : (t : List ℕ) (os : List Order) → length t ≡ 2048 → Made (after startUp t) (kept startUp t os ++ accepted startUp t)
-unfolding after accepted kept outcomeOf apply
-begins t os e = rw (eq-eqb (length t) 2048 e) (record { made = start-table t e; valid = tt })
+unfolding after outcomeOf apply
+begins t os e = rw (afresh t os e) (record { made = start-table t e; valid = tt })
 
 -- one call
 step : (c : Call) (t : List ℕ) (os : List Order) → Made t os → Made (after c t) (kept c t os ++ accepted c t)
@@ -85,14 +89,14 @@ step (opening phys routes phy frame buffer) t os m = nothing-more t os m
 step (primitive phys phy number set frame) t os m = nothing-more t os m
 step (broadcastFrame phys phy arrived set frame) t os m = nothing-more t os m
 step (smp phys phy carried request response set) t os m =
-    let os₁ = acceptedOrders phys t phy carried request (length response) (length set) in
+    let os₁ = acceptedOrders phys t phy carried request (roomFor response set) in
     record {
       made =
           smp-table phys t phy carried request response set
-          ∙ orders-applied phys t phy carried request (length response) (length set)
+          ∙ orders-applied phys t phy carried request (roomFor response set)
           ∙ ap (apply 16 os₁) (m .made)
           ∙ sym (apply-append 16 os os₁ (startTable 16));
-      valid = valid-append 16 os os₁ (m .valid) (orders-valid phys t phy carried request (length response) (length set));
+      valid = valid-append 16 os os₁ (m .valid) (orders-valid phys t phy carried request (roomFor response set));
     }
 
 runs : (cs : List Call) (t : List ℕ) (os : List Order) → Made t os → Made (run cs t) (orders cs t os)

@@ -7,7 +7,9 @@ use Rattle.wire.specs.PhySet.{member, bitsOf, setByte, setOf, tally, physIn}
 use Rattle.permit.specs.Orders.{apply, rowOrders, batchOrders}
 use Rattle.permit.specs.Permission.{place, P, setP, setBoth, startByte, startTable}
 use Rattle.tables.specs.Outcome.{outcome}
-use Rattle.tables.specs.Phys.{readySet, emptySet, zoned}
+use Rattle.tables.specs.Phys.{physSized, readySet, emptySet, zoned}
+use Rattle.tables.specs.Routes.{routesSized}
+use Rattle.tables.specs.Arrival.{arrivalChecks}
 use Rattle.tables.specs.Refusals.{firstRefusal}
 use Rattle.opens.specs.Open.{openSource, judge, byte20, sent}
 use Rattle.opens.specs.Search.{sameBytes, zeroBytes, findPhy, findRoute, search}
@@ -21,7 +23,7 @@ use Rattle.rack.specs.Rack.{rack, flat, rackTable}
 use Rattle.shelf.specs.Cases.{Cases, LaterToo, asks, fresh, single89, after1, opens2, changes2, phyZone, batch, rows89}
 
 pub cases : Cases × LaterToo
-unfolding bigEndian addressAt bit setBit tab member bitsOf setByte setOf tally physIn apply rowOrders batchOrders place P setP setBoth startByte startTable outcome readySet emptySet zoned firstRefusal openSource judge byte20 sent sameBytes zeroBytes findPhy findRoute search told toldSet frameByte frameOf typedLength smpSource right replied sound allSound configured phyZoneReply operationChecks ordersOf permissionReply rowCount rows reportReply smpReply lengthField rack flat rackTable asks fresh single89 after1 opens2 changes2 phyZone batch rows89
+unfolding bigEndian addressAt bit setBit tab member bitsOf setByte setOf tally physIn apply rowOrders batchOrders place P setP setBoth startByte startTable outcome physSized routesSized arrivalChecks readySet emptySet zoned firstRefusal openSource judge byte20 sent sameBytes zeroBytes findPhy findRoute search told toldSet frameByte frameOf typedLength smpSource right replied sound allSound configured phyZoneReply operationChecks ordersOf permissionReply rowCount rows reportReply smpReply lengthField rack flat rackTable asks fresh single89 after1 opens2 changes2 phyZone batch rows89
 cases = (
   (refl, (refl, refl), refl, refl, refl, refl, refl, refl, refl, refl, refl, refl, refl, refl, (refl, refl), refl, refl, refl),
   (refl, refl),

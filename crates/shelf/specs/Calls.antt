@@ -10,7 +10,7 @@ use Rattle.links.specs.Links.{startUpOut, leavingOut, identifyOut}
 use Rattle.election.specs.Election.{electOut}
 use Rattle.opens.specs.Open.{openOut}
 use Rattle.broadcasts.specs.Broadcasts.{primitiveOut, broadcastOut}
-use Rattle.smp.specs.Smp.{smpOut, acceptedOrders}
+use Rattle.smp.specs.Smp.{roomFor, smpOut, acceptedOrders}
 
 -- the other tables may be anything at each call
 pub data Call : Type 0 where
@@ -66,7 +66,7 @@ after (broadcastFrame phys phy arrived set frame) t = t
 
 -- the orders that a call accepted: those of an SMP request answered 00h with C1h
 unfoldable pub accepted : Call → List ℕ → List Order
-accepted (smp phys phy carried request response set) t = acceptedOrders phys t phy carried request (length response) (length set)
+accepted (smp phys phy carried request response set) t = acceptedOrders phys t phy carried request (roomFor response set)
 accepted startUp t = []
 accepted (leaving phys phy) t = []
 accepted (identify phys phy address) t = []

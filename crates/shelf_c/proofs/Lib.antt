@@ -1,3 +1,4 @@
 pub mod Crossing
+pub mod Boundary
 pub mod CLaws
 pub mod Unique

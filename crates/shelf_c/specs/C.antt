@@ -1,12 +1,15 @@
 -- What C gets. Document 01's outcomes in the fields of include/shelf.h; the quotes are of that header.
+use mathlib.Core.Bool.{Bool, true}
 use mathlib.Core.List.{List, [], _∷_, _++_}
 use Prim.Native.Nat.{ℕ, zero, suc}
 use lib.ListN.{length}
 use Rattle.wire.specs.Address.{addressAt}
+use Rattle.permit.specs.Permission.{permissionsSized}
 use Rattle.tables.specs.Refusals.{Check, refuse, below, same, differ, firstRefusal}
 use Rattle.tables.specs.Outcome.{Answer, refusal, answer, Out, out, outcome}
+use Rattle.tables.specs.Arrival.{arrivalChecks}
 use Rattle.links.specs.Links.{identifyFront, identified}
-use Rattle.smp.specs.Smp.{functionOf, smpFront, smpReply, lengthField, valuesOf, buffersOf}
+use Rattle.smp.specs.Smp.{functionOf, roomFor, requestChecks, smpReply, lengthField, valuesOf, buffersOf}
 use Rattle.shelf_c.specs.declared.ShelfElected.{ShelfElected}
 use Rattle.shelf_c.specs.declared.ShelfOpened.{ShelfOpened}
 use Rattle.shelf_c.specs.declared.ShelfTold.{ShelfTold}
@@ -63,17 +66,18 @@ identifyOutC phys phy address =
     outcome (firstRefusal (identifyChecksC phys phy address)) [] (phys ∷ []) (identified phys phy address ∷ [])
 
 -- "carried 256 or more is no byte: refused as 5, after the other causes of 5"
-abbrev pub smpChecksC : List ℕ → List ℕ → ℕ → ℕ → List ℕ → ℕ → ℕ → List Check
-smpChecksC phys permissions phy carried request room space =
-    smpFront phys permissions phy request room space
+abbrev pub smpChecksC : List ℕ → List ℕ → ℕ → ℕ → List ℕ → Bool → List Check
+smpChecksC phys permissions phy carried request room =
+    arrivalChecks phys phy (permissionsSized 16 permissions) room true
+    ++ (requestChecks request
     ++ refuse 5 (below 255 carried)
     ∷ refuse 8 (below 255 (lengthField phys permissions phy carried request))
-    ∷ []
+    ∷ [])
 
 -- the buffers: phy table, permission table, response, phy set
 abbrev pub smpOutC : List ℕ → List ℕ → ℕ → ℕ → List ℕ → List ℕ → List ℕ → Out
 smpOutC phys permissions phy carried request response set =
-    outcome (firstRefusal (smpChecksC phys permissions phy carried request (length response) (length set)))
+    outcome (firstRefusal (smpChecksC phys permissions phy carried request (roomFor response set)))
     (valuesOf (smpReply phys permissions phy carried request))
     (phys ∷ permissions ∷ response ∷ set ∷ [])
     (buffersOf (functionOf request) (smpReply phys permissions phy carried request) response set)

@@ -4,17 +4,17 @@ use election::Elected;
 use links::Linked;
 use opens::Opened;
 use smp::Answered;
+use tables::NOT_READY;
 use wire::PhyNumber;
 ghost use mathlib.Core.Path.{_≡_};
 ghost use mathlib.Core.List.{[], _∷_};
 ghost use Prim.Native.Nat.{min};
 ghost use lib.ListN.{length};
-ghost use Rattle.links.specs.Links.{linkedAs, startUpOut, leavingOut, identifyFront};
+ghost use Rattle.links.specs.Links.{linkedAs, startUpOut, leavingOut};
 ghost use Rattle.election.specs.Election.{electedAs, electOut};
 ghost use Rattle.opens.specs.Open.{openedAs, openOut};
 ghost use Rattle.broadcasts.specs.Broadcasts.{toldAs, primitiveOut, broadcastOut};
 ghost use Rattle.smp.specs.Smp.{answeredAs};
-ghost use Rattle.tables.specs.Refusals.{firstRefusal};
 ghost use Rattle.shelf_c.specs.C.{given, fields, inC, orElse, electedFields, openedFields, toldFields, answeredFields, identifyOutC, smpOutC};
 
 // The answers' fields stand in the header's order: C reads them by place.
@@ -196,14 +196,6 @@ fn eight(address: &[u8]) -> [u8; 8]
     ]
 }
 
-// What IDENTIFY refuses before it looks at the address: so any address but zero is asked about.
-fn early_refusal(phys: &[u8], phy: PhyNumber) -> u8
-    ensures { λ r. ⌜ r ≡ firstRefusal (identifyFront (now (phys .entry)) (phy .0)) ⌝ }
-{
-    let some: [u8; 8] = [1; 8];
-    links::identify_refusal(phys, phy, &some)
-}
-
 // The library takes eight bytes. Another length is refused as 4, but only after what the header puts before it.
 #[no_mangle]
 pub extern "C" fn shelf_identify(phys: &mut [u8], phy: u32, address: &[u8]) -> u32
@@ -211,7 +203,8 @@ pub extern "C" fn shelf_identify(phys: &mut [u8], phy: u32, address: &[u8]) -> u
 {
     let p = phy_of(phy);
     if address.len() != 8 {
-        return linked_c(Linked::Refused(or_else(early_refusal(phys, p), 4)));
+        let no = tables::arrival_refusal(phys, p, true, true, NOT_READY);
+        return linked_c(Linked::Refused(or_else(no, 4)));
     }
     let whole = eight(address);
     linked_c(links::identify(phys, p, &whole))
@@ -282,15 +275,8 @@ pub extern "C" fn shelf_smp(
 {
     let p = phy_of(phy);
     if 255 < carried {
-        let no = smp::smp_refusal(
-            phys,
-            permissions,
-            p,
-            255,
-            request,
-            response.len(),
-            set.len(),
-        );
+        let room = (1020 <= response.len()) & (16 <= set.len());
+        let no = smp::smp_refusal(phys, permissions, p, 255, request, room);
         return answered_c(Answered::Refused(or_else(no, 5)));
     }
     answered_c(smp::smp(phys, permissions, p, carried as u8, request, response, set))

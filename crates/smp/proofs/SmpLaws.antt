@@ -6,24 +6,26 @@ use mathlib.Core.List.{List, [], _∷_, _++_}
 use Prim.Native.Nat.{ℕ, zero, suc, _+_, _*_, _/_, _%_, _≤_, _<_}
 use native.Mathlib.Decide.{ℕ-discrete}
 use native.Mathlib.Omega.{arith}
-use borrow.Author.Tests.{eq-eqb, ne-eqb}
-use lib.Dec.{eqb}
+use borrow.Author.Tests.{eqb-true, leb-true, eq-eqb, ne-eqb}
+use lib.Dec.{eqb, leb}
 use lib.ListN.{length, getD, drop, length-append}
 use Rattle.wire.specs.PhySet.{physIn}
 use Rattle.wire.proofs.Sets.{length-setOf, count-front}
+use Rattle.permit.specs.Permission.{permissionsSized}
 use Rattle.permit.specs.Orders.{Order, apply}
 use Rattle.permit.specs.History.{Valid}
-use Rattle.tables.specs.Refusals.{refuse, below, differ, firstRefusal}
+use Rattle.tables.specs.Refusals.{firstRefusal}
 use Rattle.tables.specs.Outcome.{answer, Out, out, outcome}
-use Rattle.tables.specs.Phys.{phyCount, readySet, emptySet}
-use Rattle.tables.proofs.RefusalLaws.{clear, front, back}
+use Rattle.tables.specs.Phys.{readySet, emptySet}
+use Rattle.tables.specs.Arrival.{arrivalChecks}
+use Rattle.tables.proofs.ArrivalLaws.{both, arrived, arrival-clear}
 use Rattle.tables.proofs.OutcomeLaws.{gives}
 use Rattle.requests.specs.Requests.{Reply, turnedDown, replied, Lent, Leaves, responseOf}
 use Rattle.phy_zone.specs.PhyZone.{phyZoneChecks, phyZoneReply}
 use Rattle.zone_permission.specs.ZonePermission.{permissionChecks, permissionSet, permissionReply, ordersOf}
 use Rattle.zone_permission.proofs.PermissionLaws.{accepted, valid-orders}
 use Rattle.zone_report.specs.ZoneReport.{reportReply}
-use Rattle.smp.specs.Smp.{functionOf, smpReply, lengthField, arrivalChecks, smpChecks, valuesOf, buffersOf, smpOut, acceptedOrders}
+use Rattle.smp.specs.Smp.{functionOf, smpReply, lengthField, roomFor, smpChecks, valuesOf, buffersOf, smpOut, acceptedOrders}
 
 -- ---- the rule that the function byte picks
 module _ (phys permissions : List ℕ) (phy carried : ℕ) (request : List ℕ) where
@@ -145,33 +147,25 @@ module _ (phys permissions : List ℕ) (phy carried : ℕ) (request : List ℕ) 
       go false false = refl
 
 -- ---- the call
-module _ (phys permissions : List ℕ) (phy room space r : ℕ) (e : r ≡ firstRefusal (arrivalChecks phys permissions phy room space)) where
-  pub arrival-front : (carried : ℕ) (request : List ℕ) → (r ≡ 0 → ⊥) → r ≡ firstRefusal (smpChecks phys permissions phy carried request room space)
-  arrival-front carried request h = front (arrivalChecks phys permissions phy room space) _ r e h
+-- as the code has it: s is what was asked of the permission table's size, r the number of the shared rows
+pub smp-whole : (phys permissions : List ℕ) (phy : ℕ) (room s : Bool) (r : ℕ) → s ≡ permissionsSized 16 permissions
+    → r ≡ firstRefusal (arrivalChecks phys phy s room true) → r ≡ 0 → length permissions ≡ 2048
+smp-whole phys permissions phy room s r es e z = eqb-true _ _ (sym es ∙ arrived phys phy s room true r e z .sized)
 
-  pub arrival-back : (carried : ℕ) (request : List ℕ) (n : ℕ) → r ≡ 0
-      → n ≡ firstRefusal (refuse 4 (below (length request) 4) ∷ refuse 5 (differ (getD request 0 0) 0x40)
-      ∷ refuse 8 (below 255 (lengthField phys permissions phy carried request)) ∷ [])
-      → n ≡ firstRefusal (smpChecks phys permissions phy carried request room space)
-  arrival-back carried request n z en = back (arrivalChecks phys permissions phy room space) _ r n tt e z en
-
-  pub arrival-there : r ≡ 0 → phy < phyCount phys
-  arrival-there z = let k = clear (arrivalChecks phys permissions phy room space) r e z tt in omega arith
-
-  pub arrival-whole : r ≡ 0 → length permissions ≡ 2048
-  arrival-whole z = let k = clear (arrivalChecks phys permissions phy room space) r e z tt in omega arith
-
-pub smp-lent : (phys permissions : List ℕ) (phy carried : ℕ) (request : List ℕ) (room space r : ℕ)
-    → r ≡ firstRefusal (smpChecks phys permissions phy carried request room space) → r ≡ 0 → Lent phys permissions phy (length request) room space
-smp-lent phys permissions phy carried request room space r e z =
-    let k = clear (smpChecks phys permissions phy carried request room space) r e z tt in record {
-      records = omega arith;
-      most = omega arith;
-      whole = omega arith;
-      there = omega arith;
-      head = omega arith;
-      roomy = omega arith;
-      spaced = omega arith;
+pub smp-lent : (phys permissions : List ℕ) (phy carried : ℕ) (request response set : List ℕ) (r : ℕ)
+    → r ≡ firstRefusal (smpChecks phys permissions phy carried request (roomFor response set)) → r ≡ 0
+    → Lent phys permissions phy (length request) (length response) (length set)
+smp-lent phys permissions phy carried request response set r e z =
+    let k = arrival-clear phys phy (permissionsSized 16 permissions) (roomFor response set) true _ r e z tt in
+    let room = both (leb 1020 (length response)) (leb 16 (length set)) (k .0 .roomy) in
+    record {
+      records = k .0 .records;
+      most = k .0 .most;
+      whole = eqb-true _ _ (k .0 .sized);
+      there = k .0 .there;
+      head = k .1 .0;
+      responseRoom = leb-true _ _ (room .0);
+      setRoom = leb-true _ _ (room .1);
     }
 
 -- the set that a rule leaves has sixteen bytes at least
@@ -197,9 +191,9 @@ smp-gives phys permissions phy carried request response set r n result written c
     buffers p q t u = cc
 
 -- the permission table after the call
-unfoldable pub permissionsAfter : List ℕ → List ℕ → ℕ → ℕ → List ℕ → ℕ → ℕ → List ℕ
-permissionsAfter phys permissions phy carried request room space =
-    cond (eqb (firstRefusal (smpChecks phys permissions phy carried request room space)) 0)
+unfoldable pub permissionsAfter : List ℕ → List ℕ → ℕ → ℕ → List ℕ → Bool → List ℕ
+permissionsAfter phys permissions phy carried request room =
+    cond (eqb (firstRefusal (smpChecks phys permissions phy carried request room)) 0)
     ((smpReply phys permissions phy carried request) .permissions)
     permissions
 
@@ -231,12 +225,12 @@ module _ (phys permissions : List ℕ) (phy carried : ℕ) (request : List ℕ) 
       (λ m. rw (ne-eqb (suc m) 0 (λ z. omega arith))))
 
   -- the permission table after the call is the table before with the accepted orders applied
-  pub orders-applied : (room space : ℕ)
-      → permissionsAfter phys permissions phy carried request room space
-      ≡ apply 16 (acceptedOrders phys permissions phy carried request room space) permissions
+  pub orders-applied : (room : Bool)
+      → permissionsAfter phys permissions phy carried request room
+      ≡ apply 16 (acceptedOrders phys permissions phy carried request room) permissions
   unfolding permissionsAfter acceptedOrders apply
-  orders-applied room space =
-      go (eqb (firstRefusal (smpChecks phys permissions phy carried request room space)) 0) (ℕ-discrete (functionOf request) 0xc1)
+  orders-applied room =
+      go (eqb (firstRefusal (smpChecks phys permissions phy carried request room)) 0) (ℕ-discrete (functionOf request) 0xc1)
     where
       go : (x : Bool) → Dec (functionOf request ≡ 0xc1)
           → cond x ((smpReply phys permissions phy carried request) .permissions) permissions
@@ -256,10 +250,10 @@ module _ (phys permissions : List ℕ) (phy carried : ℕ) (request : List ℕ) 
       go (suc n) p h = h
 
   -- the accepted orders name groups from 2 to 127
-  pub orders-valid : (room space : ℕ) → Valid 16 (acceptedOrders phys permissions phy carried request room space)
+  pub orders-valid : (room : Bool) → Valid 16 (acceptedOrders phys permissions phy carried request room)
   unfolding acceptedOrders
-  orders-valid room space =
-      go (eqb (firstRefusal (smpChecks phys permissions phy carried request room space)) 0) (ℕ-discrete (functionOf request) 0xc1)
+  orders-valid room =
+      go (eqb (firstRefusal (smpChecks phys permissions phy carried request room)) 0) (ℕ-discrete (functionOf request) 0xc1)
       (ℕ-discrete ((smpReply phys permissions phy carried request) .result) 0)
     where
       go : (x : Bool) → Dec (functionOf request ≡ 0xc1) → Dec ((smpReply phys permissions phy carried request) .result ≡ 0)

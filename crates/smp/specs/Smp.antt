@@ -1,14 +1,15 @@
 -- "SMP": "After the refusals, the function byte picks one of three rules; any other byte answers 01h."
-use mathlib.Core.Bool.{cond, _&&_}
+use mathlib.Core.Bool.{Bool, true, cond, _&&_}
 use mathlib.Core.List.{List, [], _∷_, _++_}
 use Prim.Native.Nat.{ℕ, _+_, _/_}
-use lib.Dec.{eqb}
+use lib.Dec.{eqb, leb}
 use lib.ListN.{length, getD, drop}
 use Rattle.wire.specs.PhySet.{physIn}
+use Rattle.permit.specs.Permission.{permissionsSized}
 use Rattle.permit.specs.Orders.{Order}
-use Rattle.tables.specs.Refusals.{Check, refuse, below, atMost, differ, off, firstRefusal}
+use Rattle.tables.specs.Refusals.{Check, refuse, below, differ, firstRefusal}
 use Rattle.tables.specs.Outcome.{Answer, refusal, answer, Out, outcome}
-use Rattle.tables.specs.Phys.{phyCount, physSize, ready}
+use Rattle.tables.specs.Arrival.{arrivalChecks}
 use Rattle.requests.specs.Requests.{Reply, turnedDown, responseOf}
 use Rattle.phy_zone.specs.PhyZone.{phyZoneReply}
 use Rattle.zone_permission.specs.ZonePermission.{permissionReply, ordersOf}
@@ -37,31 +38,19 @@ smpReply phys permissions phy carried request =
 unfoldable pub lengthField : List ℕ → List ℕ → ℕ → ℕ → List ℕ → ℕ
 lengthField phys permissions phy carried request = length ((smpReply phys permissions phy carried request) .rest) / 4
 
--- refusals 1, 2, 3, 7; `room` is the response buffer's size, `space` the phy set's
-abbrev pub arrivalChecks : List ℕ → List ℕ → ℕ → ℕ → ℕ → List Check
-arrivalChecks phys permissions phy room space =
-    physSize phys
-    ++ refuse 1 (differ (length permissions) 2048)
-    ∷ refuse 2 (atMost (phyCount phys) phy)
-    ∷ refuse 3 (below room 1020)
-    ∷ refuse 3 (below space 16)
-    ∷ refuse 7 (off (ready phys phy))
-    ∷ []
+-- "response buffer under 1,020 bytes, phy set under 16": whether there is room for both
+abbrev pub roomFor : List ℕ → List ℕ → Bool
+roomFor response set = leb 1020 (length response) && leb 16 (length set)
 
 -- 4 ("SMP under 4"), 5 ("SMP byte 0 not 40h")
-abbrev pub smpFront : List ℕ → List ℕ → ℕ → List ℕ → ℕ → ℕ → List Check
-smpFront phys permissions phy request room space =
-    arrivalChecks phys permissions phy room space
-    ++ refuse 4 (below (length request) 4)
-    ∷ refuse 5 (differ (getD request 0 0) 0x40)
-    ∷ []
+abbrev pub requestChecks : List ℕ → List Check
+requestChecks request = refuse 4 (below (length request) 4) ∷ refuse 5 (differ (getD request 0 0) 0x40) ∷ []
 
--- and 8
-abbrev pub smpChecks : List ℕ → List ℕ → ℕ → ℕ → List ℕ → ℕ → ℕ → List Check
-smpChecks phys permissions phy carried request room space =
-    smpFront phys permissions phy request room space
-    ++ refuse 8 (below 255 (lengthField phys permissions phy carried request))
-    ∷ []
+-- refusals 1, 2, 3, 7, then 4 and 5, and 8
+abbrev pub smpChecks : List ℕ → List ℕ → ℕ → ℕ → List ℕ → Bool → List Check
+smpChecks phys permissions phy carried request room =
+    arrivalChecks phys phy (permissionsSized 16 permissions) room true
+    ++ (requestChecks request ++ refuse 8 (below 255 (lengthField phys permissions phy carried request)) ∷ [])
 
 -- what a reply leaves of the call: its values, and the buffers: phy table, permission table, response, phy set
 abbrev pub valuesOf : Reply → List ℕ
@@ -73,15 +62,15 @@ buffersOf function p response set =
 
 abbrev pub smpOut : List ℕ → List ℕ → ℕ → ℕ → List ℕ → List ℕ → List ℕ → Out
 smpOut phys permissions phy carried request response set =
-    outcome (firstRefusal (smpChecks phys permissions phy carried request (length response) (length set)))
+    outcome (firstRefusal (smpChecks phys permissions phy carried request (roomFor response set)))
     (valuesOf (smpReply phys permissions phy carried request))
     (phys ∷ permissions ∷ response ∷ set ∷ [])
     (buffersOf (functionOf request) (smpReply phys permissions phy carried request) response set)
 
 -- the orders that a request's call accepted: none unless it was answered 00h with C1h
-unfoldable pub acceptedOrders : List ℕ → List ℕ → ℕ → ℕ → List ℕ → ℕ → ℕ → List Order
-acceptedOrders phys permissions phy carried request room space =
-    cond (eqb (firstRefusal (smpChecks phys permissions phy carried request room space)) 0
+unfoldable pub acceptedOrders : List ℕ → List ℕ → ℕ → ℕ → List ℕ → Bool → List Order
+acceptedOrders phys permissions phy carried request room =
+    cond (eqb (firstRefusal (smpChecks phys permissions phy carried request room)) 0
     && (eqb (functionOf request) 0xc1 && eqb ((smpReply phys permissions phy carried request) .result) 0x00))
     (ordersOf request)
     []

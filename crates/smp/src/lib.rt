@@ -1,6 +1,7 @@
 // SMP requests: the function byte picks one of three rules.
 use phy_zone::configure_phy_zone;
 use requests::Ruled;
+use tables::READY;
 use wire::PhyNumber;
 use zone_permission::configure_zone_permission;
 use zone_report::report_zone_permission;
@@ -12,7 +13,7 @@ ghost use Rattle.tables.specs.Refusals.{firstRefusal};
 ghost use Rattle.tables.specs.Outcome.{out};
 ghost use Rattle.tables.specs.Phys.{phyCount, emptySet};
 ghost use Rattle.requests.specs.Requests.{Lent, Leaves};
-ghost use Rattle.smp.specs.Smp.{answeredAs, functionOf, smpReply, lengthField, arrivalChecks, smpChecks, smpOut};
+ghost use Rattle.smp.specs.Smp.{answeredAs, functionOf, smpReply, lengthField, smpChecks, smpOut};
 
 pub enum Answered {
     Refused(u8),
@@ -32,49 +33,18 @@ fn length_field(phys: &[u8], permissions: &[u8], phy: PhyNumber, carried: u8, re
     }
 }
 
-// What is checked before the request is looked at.
-fn arrival_refusal(phys: &[u8], permissions: &[u8], phy: PhyNumber, room: usize, space: usize) -> u8
-    ensures { λ r. ⌜ r ≡ firstRefusal (arrivalChecks (now (phys .entry)) (now (permissions .entry)) (phy .0) room space) ⌝ }
-{
-    if phys.len() % tables::PHY_RECORD != 0 {
-        return 1;
-    }
-    if phys.len() < tables::PHY_RECORD {
-        return 1;
-    }
-    if 128 * tables::PHY_RECORD < phys.len() {
-        return 1;
-    }
-    if permissions.len() != 2048 {
-        return 1;
-    }
-    if phys.len() / tables::PHY_RECORD <= phy.0 as usize {
-        return 2;
-    }
-    if room < 1020 {
-        return 3;
-    }
-    if space < 16 {
-        return 3;
-    }
-    if !tables::is_ready(phys, phy) {
-        return 7;
-    }
-    0
-}
-
 pub fn smp_refusal(
     phys: &[u8],
     permissions: &[u8],
     phy: PhyNumber,
     carried: u8,
     request: &[u8],
-    room: usize,
-    space: usize,
+    room: bool,
 ) -> u8
-    ensures { λ r. ⌜ r ≡ firstRefusal (smpChecks (now (phys .entry)) (now (permissions .entry)) (phy .0) carried (now (request .entry)) room space) ⌝ }
+    ensures { λ r. ⌜ r ≡ firstRefusal (smpChecks (now (phys .entry)) (now (permissions .entry)) (phy .0) carried (now (request .entry)) room) ⌝ }
 {
-    let no = arrival_refusal(phys, permissions, phy, room, space);
+    let sizes = permit::permissions_sized(permissions);
+    let no = tables::arrival_refusal(phys, phy, sizes, room, READY);
     if no != 0 {
         return no;
     }
@@ -137,15 +107,8 @@ pub fn smp(
 ) -> Answered
     ensures { λ r. ⌜ out (answeredAs r) (now (phys .exit) ∷ now (permissions .exit) ∷ now (response .exit) ∷ now (set .exit) ∷ []) ≡ smpOut (now (phys .entry)) (now (permissions .entry)) (phy .0) carried (now (request .entry)) (now (response .entry)) (now (set .entry)) ⌝ }
 {
-    let no = smp_refusal(
-        phys,
-        permissions,
-        phy,
-        carried,
-        request,
-        response.len(),
-        set.len(),
-    );
+    let room = (1020 <= response.len()) & (16 <= set.len());
+    let no = smp_refusal(phys, permissions, phy, carried, request, room);
     if no != 0 {
         return Answered::Refused(no);
     }

@@ -120,3 +120,13 @@ back (refuse zero t ∷ xs) ys r n k e z en = absurd k
 back (refuse (suc m) t ∷ xs) ys r n k e z en =
     let p = passed (holds t) m (firstRefusal xs) (sym e ∙ z) in
     rw (p .0) (back xs ys 0 n k (sym (p .1)) refl en)
+
+-- where rows and those behind them give 0, each of the two does
+pub apart : (xs ys : List Check) → Numbered xs → firstRefusal (xs ++ ys) ≡ 0 → (firstRefusal xs ≡ 0) × (firstRefusal ys ≡ 0)
+unfolding firstRefusal
+apart [] ys k e = (refl, e)
+apart (refuse zero t ∷ xs) ys k e = absurd k
+apart (refuse (suc n) t ∷ xs) ys k e =
+    let p = passed (holds t) n (firstRefusal (xs ++ ys)) e in
+    let q = apart xs ys k (p .1) in
+    (rw (p .0) (q .0), q .1)

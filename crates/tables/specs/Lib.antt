@@ -2,3 +2,4 @@ pub mod Refusals
 pub mod Outcome
 pub mod Phys
 pub mod Routes
+pub mod Arrival

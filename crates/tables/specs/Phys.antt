@@ -1,13 +1,12 @@
 -- "Phy table: 1 to 128 records of 12 bytes." Reserved bits are ignored when read and written as zero.
-use mathlib.Core.Bool.{Bool}
-use mathlib.Core.List.{List, [], _∷_}
+use mathlib.Core.Bool.{Bool, _&&_}
+use mathlib.Core.List.{List}
 use Prim.Native.Nat.{ℕ, _+_, _*_, _/_, _%_}
-use lib.Dec.{eqb}
+use lib.Dec.{eqb, leb}
 use lib.ListN.{length, getD, set, replicate}
 use Rattle.wire.specs.Groups.{groupOf}
 use Rattle.wire.specs.Address.{addressAt}
 use Rattle.wire.specs.PhySet.{setOf}
-use Rattle.tables.specs.Refusals.{Check, refuse, below, differ}
 
 -- the bytes of a record
 abbrev pub phyRecord : ℕ
@@ -16,13 +15,9 @@ phyRecord = 12
 abbrev pub phyCount : List ℕ → ℕ
 phyCount phys = length phys / phyRecord
 
--- refusal 1: "a table the call uses has a size not named above"
-abbrev pub physSize : List ℕ → List Check
-physSize phys =
-    refuse 1 (differ (length phys % phyRecord) 0)
-    ∷ refuse 1 (below (length phys) phyRecord)
-    ∷ refuse 1 (below (128 * phyRecord) (length phys))
-    ∷ []
+-- "1 to 128 records"
+unfoldable pub physSized : List ℕ → Bool
+physSized phys = (eqb (length phys % phyRecord) 0 && leb phyRecord (length phys)) && leb (length phys) (128 * phyRecord)
 
 -- byte k of phy i's record
 abbrev pub phyByte : List ℕ → ℕ → ℕ → ℕ

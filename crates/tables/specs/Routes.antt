@@ -1,10 +1,11 @@
 -- "Route table: 0 to 1,024 records of 12 bytes. Bytes 0-7 address; 8 phy; 9 group, low 7 bits; 10 bits 3..0 priority; 11 zero."
-use mathlib.Core.List.{List, [], _∷_}
+use mathlib.Core.Bool.{Bool, _&&_}
+use mathlib.Core.List.{List}
 use Prim.Native.Nat.{ℕ, _+_, _*_, _/_, _%_}
+use lib.Dec.{eqb, leb}
 use lib.ListN.{length, getD}
 use Rattle.wire.specs.Groups.{outsideGroup}
 use Rattle.wire.specs.Address.{addressAt}
-use Rattle.tables.specs.Refusals.{Check, refuse, below, differ}
 
 abbrev pub routeRecord : ℕ
 routeRecord = 12
@@ -12,12 +13,9 @@ routeRecord = 12
 abbrev pub routeCount : List ℕ → ℕ
 routeCount routes = length routes / routeRecord
 
--- refusal 1: "a table the call uses has a size not named above"
-abbrev pub routesSize : List ℕ → List Check
-routesSize routes =
-    refuse 1 (differ (length routes % routeRecord) 0)
-    ∷ refuse 1 (below (1024 * routeRecord) (length routes))
-    ∷ []
+-- "0 to 1,024 records"
+unfoldable pub routesSized : List ℕ → Bool
+routesSized routes = eqb (length routes % routeRecord) 0 && leb (length routes) (1024 * routeRecord)
 
 abbrev pub routeByte : List ℕ → ℕ → ℕ → ℕ
 routeByte routes i k = getD routes (routeRecord * i + k) 0

@@ -6,13 +6,29 @@ ghost use mathlib.Core.List.{_++_};
 ghost use Prim.Native.Nat.{_+_, _*_, _%_, _<_, _≤_};
 ghost use lib.ListN.{length, drop};
 ghost use Rattle.wire.specs.PhySet.{setByte};
-ghost use Rattle.tables.specs.Phys.{phyCount, participating, phyPriority, phyGroup, phyAddress, ready, known, readySet, emptySet, zoned};
-ghost use Rattle.tables.specs.Routes.{routeCount, routeAddress, routePhy, routeGroup, routePriority};
+ghost use Rattle.tables.specs.Phys.{phyCount, participating, phyPriority, phyGroup, phyAddress, ready, known, readySet, emptySet, zoned, physSized};
+ghost use Rattle.tables.specs.Routes.{routeCount, routeAddress, routePhy, routeGroup, routePriority, routesSized};
+ghost use Rattle.tables.specs.Refusals.{firstRefusal};
+ghost use Rattle.tables.specs.Arrival.{arrivalChecks};
 
 // The bytes of a phy record, and of a route record.
 pub const PHY_RECORD: usize = 12;
 
 pub const ROUTE_RECORD: usize = 12;
+
+// Document 01's numbers for what a call refuses first.
+pub const WRONG_SIZE: u8 = 1;
+
+const NO_SUCH_PHY: u8 = 2;
+
+const NO_ROOM: u8 = 3;
+
+const WRONG_STATE: u8 = 7;
+
+// What a call awaits of the arriving phy: IDENTIFY is for one that is not ready, every other call for one that is.
+pub const READY: bool = true;
+
+pub const NOT_READY: bool = false;
 
 pub fn is_participating(phys: &[u8], phy: PhyNumber) -> bool
     requires { ⌜ phy .0 < phyCount (now phys) ⌝ }
@@ -98,6 +114,45 @@ pub fn route_priority(routes: &[u8], i: usize) -> u8
     ensures { λ r. ⌜ r ≡ routePriority (now (routes .entry)) i ⌝ }
 {
     routes[ROUTE_RECORD * i + 10] % 16
+}
+
+// Whether the phy table has 1 to 128 records.
+pub fn phys_sized(phys: &[u8]) -> bool
+    ensures { λ r. ⌜ r ≡ physSized (now (phys .entry)) ⌝ }
+{
+    let n = phys.len();
+    (n % PHY_RECORD == 0) & (PHY_RECORD <= n) & (n <= 128 * PHY_RECORD)
+}
+
+// Whether the route table has at most 1,024 records.
+pub fn routes_sized(routes: &[u8]) -> bool
+    ensures { λ r. ⌜ r ≡ routesSized (now (routes .entry)) ⌝ }
+{
+    let n = routes.len();
+    (n % ROUTE_RECORD == 0) & (n <= 1024 * ROUTE_RECORD)
+}
+
+// What every call with an arriving phy checks first. The call says whether its other tables have their sizes, whether there is room for
+// what it writes, and whether it awaits a phy that is ready.
+pub fn arrival_refusal(phys: &[u8], phy: PhyNumber, sizes: bool, room: bool, awaited: bool) -> u8
+    ensures { λ r. ⌜ r ≡ firstRefusal (arrivalChecks (now (phys .entry)) (phy .0) sizes room awaited) ⌝ }
+{
+    if !phys_sized(phys) {
+        return WRONG_SIZE;
+    }
+    if !sizes {
+        return WRONG_SIZE;
+    }
+    if phys.len() / PHY_RECORD <= phy.0 as usize {
+        return NO_SUCH_PHY;
+    }
+    if !room {
+        return NO_ROOM;
+    }
+    if is_ready(phys, phy) != awaited {
+        return WRONG_STATE;
+    }
+    0
 }
 
 // Whether there is a phy i and it is ready.

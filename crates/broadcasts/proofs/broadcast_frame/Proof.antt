@@ -1,8 +1,7 @@
 -- `broadcasts::broadcast_frame` meets its contract.
 -- Assumes nothing.
 use Rattle.tables.proofs.OutcomeLaws.{refuses}
-use Rattle.tables.proofs.RefusalLaws.{clear}
-use Rattle.broadcasts.proofs.BroadcastLaws.{announce-gives}
+use Rattle.broadcasts.proofs.BroadcastLaws.{frame-lent, frame-long, announce-gives}
 use borrow.Author.Needs.{needs}
 use Rattle.broadcasts.proofs.broadcast_frame.Statement.{statement}
 use Rattle.broadcasts.proofs.broadcast_frame.Tie as tie
@@ -14,7 +13,7 @@ returns : tie.Need-returns
 returns c = search refuses
 
 relay-frame-requires : tie.Need-relay-frame-requires
-relay-frame-requires c κs = search clear
+relay-frame-requires c κs = (search frame-lent, search frame-long)
 
 same-length : tie.Need-same-length
 same-length c = search needs

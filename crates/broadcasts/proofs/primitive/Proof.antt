@@ -1,8 +1,7 @@
 -- `broadcasts::primitive` meets its contract.
 -- Assumes nothing.
 use Rattle.tables.proofs.OutcomeLaws.{refuses}
-use Rattle.tables.proofs.RefusalLaws.{clear}
-use Rattle.broadcasts.proofs.BroadcastLaws.{announce-gives}
+use Rattle.broadcasts.proofs.BroadcastLaws.{primitive-lent, primitive-small, announce-gives}
 use borrow.Author.Needs.{needs}
 use Rattle.broadcasts.proofs.primitive.Statement.{statement}
 use Rattle.broadcasts.proofs.primitive.Tie as tie
@@ -14,7 +13,7 @@ returns : tie.Need-returns
 returns c = search refuses
 
 relay-primitive-requires : tie.Need-relay-primitive-requires
-relay-primitive-requires c κs = search clear
+relay-primitive-requires c κs = (search primitive-lent, search primitive-small)
 
 same-length : tie.Need-same-length
 same-length c = search needs

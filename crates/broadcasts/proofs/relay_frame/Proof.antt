@@ -1,13 +1,12 @@
 -- `broadcasts::relay_frame` meets its contract.
 -- Assumes nothing.
-use Rattle.broadcasts.proofs.BroadcastLaws.{announce-from, frame-long}
-use native.Mathlib.Omega.{arith}
+use Rattle.broadcasts.proofs.BroadcastLaws.{announce-from}
 use borrow.Author.Needs.{needs}
 use Rattle.broadcasts.proofs.relay_frame.Statement.{statement}
 use Rattle.broadcasts.proofs.relay_frame.Tie as tie
 
 shared-slice-read-outside-group : tie.Need-shared-slice-read-outside-group
-shared-slice-read-outside-group c = omega (arith, frame-long (c .before .before .before .before .before .before .args .arrived .now) (c .before .before .before .before .before .before .pre .1 .1 .1 .1 .1 .1 .1 .1 .1 .0) (omega arith) (omega arith))
+shared-slice-read-outside-group c = search needs
 
 outside-group-requires : tie.Need-outside-group-requires
 outside-group-requires c κs = search needs

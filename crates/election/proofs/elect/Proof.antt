@@ -1,8 +1,7 @@
 -- `election::elect` meets its contract.
 -- Assumes nothing.
-use Rattle.tables.proofs.RefusalLaws.{clear}
 use Rattle.tables.proofs.OutcomeLaws.{refuses, gives}
-use Rattle.election.proofs.Steps.{supervises}
+use Rattle.election.proofs.Steps.{elect-most, supervises}
 use Rattle.election.proofs.ElectionLaws.{elected-fits}
 use borrow.Author.Needs.{needs}
 use Rattle.election.proofs.elect.Statement.{statement}
@@ -15,7 +14,7 @@ returns : tie.Need-returns
 returns c = search refuses
 
 elect-both-requires : tie.Need-elect-both-requires
-elect-both-requires c κs = search clear
+elect-both-requires c κs = search elect-most
 
 cast-t6 : tie.Need-cast-t6
 cast-t6 c = search elected-fits

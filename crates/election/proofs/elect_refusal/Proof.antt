@@ -5,30 +5,22 @@ use borrow.Author.Needs.{needs}
 use Rattle.election.proofs.elect_refusal.Statement.{statement}
 use Rattle.election.proofs.elect_refusal.Tie as tie
 
+phys-sized-requires : tie.Need-phys-sized-requires
+phys-sized-requires c κs = search needs
+
 returns : tie.Need-returns
 returns c = search rows depth 16
+
+routes-sized-requires : tie.Need-routes-sized-requires
+routes-sized-requires c κs = search needs
 
 returns-2 : tie.Need-returns-2
 returns-2 c = search rows depth 16
 
-mul-if3 : tie.Need-mul-if3
-mul-if3 c = search needs
-
 returns-3 : tie.Need-returns-3
 returns-3 c = search rows depth 16
 
-returns-4 : tie.Need-returns-4
-returns-4 c = search rows depth 16
-
-mul-if5 : tie.Need-mul-if5
-mul-if5 c = search needs
-
-returns-5 : tie.Need-returns-5
-returns-5 c = search rows depth 16
-
-returns-6 : tie.Need-returns-6
-returns-6 c = search rows depth 16
-
 pub elect-refusal-spec : {M : Type 1} → statement M
 elect-refusal-spec =
-    tie.close (tie.spec returns returns-2 mul-if3 returns-3 returns-4 mul-if5 returns-5 returns-6)
+    tie.close
+    (tie.spec phys-sized-requires returns routes-sized-requires returns-2 returns-3)

@@ -1,13 +1,13 @@
 -- `links::leaving` meets its contract.
 -- Assumes nothing.
-use Rattle.tables.proofs.RefusalLaws.{clear}
+use Rattle.tables.proofs.ArrivalLaws.{arrival-there}
 use Rattle.tables.proofs.OutcomeLaws.{refuses, gives}
 use borrow.Author.Needs.{needs}
 use Rattle.links.proofs.leaving.Statement.{statement}
 use Rattle.links.proofs.leaving.Tie as tie
 
-leaving-refusal-requires : tie.Need-leaving-refusal-requires
-leaving-refusal-requires c κs = search needs
+arrival-refusal-requires : tie.Need-arrival-refusal-requires
+arrival-refusal-requires c κs = search needs
 
 same-length : tie.Need-same-length
 same-length c = search needs
@@ -16,7 +16,7 @@ returns : tie.Need-returns
 returns c = search refuses
 
 leave-requires : tie.Need-leave-requires
-leave-requires c κs = search clear
+leave-requires c κs = search arrival-there
 
 same-length-2 : tie.Need-same-length-2
 same-length-2 c = search needs
@@ -27,4 +27,4 @@ returns-2 c = search gives
 pub leaving-spec : {M : Type 1} → statement M
 leaving-spec =
     tie.close
-    (tie.spec leaving-refusal-requires same-length returns leave-requires same-length-2 returns-2)
+    (tie.spec arrival-refusal-requires same-length returns leave-requires same-length-2 returns-2)

@@ -1,8 +1,12 @@
 -- `links::start_up_refusal` meets its contract.
 -- Assumes nothing.
 use Rattle.tables.proofs.RefusalLaws.{rows}
+use borrow.Author.Needs.{needs}
 use Rattle.links.proofs.start_up_refusal.Statement.{statement}
 use Rattle.links.proofs.start_up_refusal.Tie as tie
+
+permissions-sized-requires : tie.Need-permissions-sized-requires
+permissions-sized-requires c κs = search needs
 
 returns : tie.Need-returns
 returns c = search rows depth 16
@@ -11,4 +15,4 @@ returns-2 : tie.Need-returns-2
 returns-2 c = search rows depth 16
 
 pub start-up-refusal-spec : {M : Type 1} → statement M
-start-up-refusal-spec = tie.close (tie.spec returns returns-2)
+start-up-refusal-spec = tie.close (tie.spec permissions-sized-requires returns returns-2)

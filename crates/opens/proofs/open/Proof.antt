@@ -1,11 +1,9 @@
 -- `opens::open` meets its contract.
 -- Assumes nothing.
 use mathlib.Core.Path.{sym, _∙_}
-use Rattle.tables.proofs.RefusalLaws.{clear}
 use Rattle.tables.proofs.OutcomeLaws.{refuses}
 use Rattle.opens.proofs.SearchLaws.{search-names}
-use Rattle.opens.proofs.OpenSteps.{open-none, open-to}
-use native.Mathlib.Omega.{arith}
+use Rattle.opens.proofs.OpenSteps.{open-most, open-there, open-whole, open-frame, open-room, open-none, open-to}
 use borrow.Author.Needs.{needs}
 use Rattle.opens.proofs.open.Statement.{statement}
 use Rattle.opens.proofs.open.Tie as tie
@@ -17,7 +15,7 @@ returns : tie.Need-returns
 returns c = search refuses
 
 search-requires : tie.Need-search-requires
-search-requires c κs = let k = clear _ _ (c .before .open-refusal .ensures) (c .if1 .left) tt in (omega arith, omega arith)
+search-requires c κs = (search open-most, search open-frame)
 
 enum-known-p : tie.Need-enum-known-p
 enum-known-p c = search needs
@@ -31,9 +29,8 @@ returns-2 c = search open-none
 admit-requires : tie.Need-admit-requires
 admit-requires c κs =
     let s = c .before .before .before .before in
-    let k = clear _ _ (s .before .before .open-refusal .ensures) (s .before .if1 .left) tt in
     let n = search-names _ _ _ _ _ (sym (s .search .ensures) ∙ c .before .before .p .given .1) in
-    (omega arith, omega arith, omega arith, omega arith, n .0, n .2)
+    (search open-there, search open-whole, search open-frame, search open-room, n .0, n .2)
 
 same-length : tie.Need-same-length
 same-length c = search needs

@@ -11,8 +11,8 @@ use Rattle.shelf_c.proofs.shelf_identify.Tie as tie
 phy-of-requires : tie.Need-phy-of-requires
 phy-of-requires c κs = search needs
 
-early-refusal-requires : tie.Need-early-refusal-requires
-early-refusal-requires c κs = search needs
+arrival-refusal-requires : tie.Need-arrival-refusal-requires
+arrival-refusal-requires c κs = search needs
 
 or-else-requires : tie.Need-or-else-requires
 or-else-requires c κs = search needs
@@ -46,7 +46,7 @@ shelf-identify-spec =
     tie.close
     (tie.spec
     phy-of-requires
-    early-refusal-requires
+    arrival-refusal-requires
     or-else-requires
     linked-c-requires
     same-length

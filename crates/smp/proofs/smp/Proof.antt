@@ -21,7 +21,7 @@ returns c = search refuses
 rule-requires : tie.Need-rule-requires
 rule-requires c κs =
     let args = c .before .before .before .before .before .before .before .before .before .before .before .before .before .args in
-    smp-lent _ _ _ (args .carried) (args .request .now) _ _ _ (c .before .before .before .before .before .smp-refusal .ensures) (c .before .before .before .before .if1 .left)
+    smp-lent _ _ _ (args .carried) (args .request .now) (args .response .now) (args .set .now) _ (c .before .before .before .before .before .smp-refusal .ensures) (c .before .before .before .before .if1 .left)
 
 phys-in-requires : tie.Need-phys-in-requires
 phys-in-requires c κs = told-long _ _ _ _ _ _ _ _ _ _ _ _ _ (c .before .before .before .before .before .before .before .before .before .rule .ensures)

@@ -1,11 +1,15 @@
 -- `smp::smp_refusal` meets its contract.
 -- Assumes nothing.
-use Rattle.tables.proofs.RefusalLaws.{first, here, next, none, held-above, held-atMost}
-use Rattle.smp.proofs.SmpLaws.{arrival-front, arrival-back, arrival-there, arrival-whole}
+use Rattle.tables.proofs.RefusalLaws.{rows, held-above, held-atMost}
+use Rattle.tables.proofs.ArrivalLaws.{arrival-there, arrival-front, arrival-back}
+use Rattle.smp.proofs.SmpLaws.{smp-whole}
 use native.Mathlib.Omega.{arith}
 use borrow.Author.Needs.{needs}
 use Rattle.smp.proofs.smp_refusal.Statement.{statement}
 use Rattle.smp.proofs.smp_refusal.Tie as tie
+
+permissions-sized-requires : tie.Need-permissions-sized-requires
+permissions-sized-requires c κs = search needs
 
 arrival-refusal-requires : tie.Need-arrival-refusal-requires
 arrival-refusal-requires c κs = search needs
@@ -14,27 +18,28 @@ returns : tie.Need-returns
 returns c = search arrival-front
 
 returns-2 : tie.Need-returns-2
-returns-2 c = search (arrival-back, first, here, next, none, held-above, held-atMost) depth 16
+returns-2 c = search (arrival-back, rows) depth 16
 
 shared-slice-read-if3 : tie.Need-shared-slice-read-if3
 shared-slice-read-if3 c = search needs
 
 returns-3 : tie.Need-returns-3
-returns-3 c = search (arrival-back, first, here, next, none, held-above, held-atMost) depth 16
+returns-3 c = search (arrival-back, rows) depth 16
 
 length-field-requires : tie.Need-length-field-requires
-length-field-requires c κs = (search arrival-there, search arrival-whole, omega arith)
+length-field-requires c κs = (search arrival-there, search smp-whole, omega arith)
 
 returns-4 : tie.Need-returns-4
-returns-4 c = search (arrival-back, first, here, next, none, held-above, held-atMost) depth 16
+returns-4 c = search (arrival-back, rows, held-above) depth 16
 
 returns-5 : tie.Need-returns-5
-returns-5 c = search (arrival-back, first, here, next, none, held-above, held-atMost) depth 16
+returns-5 c = search (arrival-back, rows, held-atMost) depth 16
 
 pub smp-refusal-spec : {M : Type 1} → statement M
 smp-refusal-spec =
     tie.close
     (tie.spec
+    permissions-sized-requires
     arrival-refusal-requires
     returns
     returns-2

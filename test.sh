@@ -1,34 +1,46 @@
 #!/usr/bin/env bash
 # The test command: proves every crate from nothing, tries the must-fail edits, runs the programs, and then the repository's own tests
-# against a second program. The last line is rt ci's own count.
+# of the archive and against a second program. What can fail early comes before the proofs. The last line is rt ci's own count.
 set -euo pipefail
 cd "$(dirname "$0")"
+command -v rt >/dev/null || {
+    echo "test.sh: rt, the Rattle kit's tool, is not on the PATH: without it nothing here can be proved or built" >&2
+    exit 2
+}
 log=$(mktemp)
 trap 'rm -f "$log"' EXIT
 calls=${CALLS:-300000}
 
 step() { printf '== %s (%s s)\n' "$1" "$SECONDS"; }
 
-for tool in cargo python3; do
-    command -v "$tool" >/dev/null || { apt-get update && apt-get install -y --no-install-recommends "$tool"; } >/dev/null
-done
+step 'tools'
+# All that later steps need, so that none is found missing after the proofs. need TOOL PACKAGE..
+packages=()
+need() { command -v "$1" >/dev/null || packages+=("${@:2}"); }
+need cargo cargo
+need python3 python3
+need gcc gcc libc6-dev
+need x86_64-linux-gnu-readelf binutils-x86-64-linux-gnu
+[ "$(uname -m)" = x86_64 ] || packages+=(gcc-x86-64-linux-gnu libc6-dev-amd64-cross)
+tests/install.sh "${packages[@]}"
 
 step 'layout'
 rt fmt --check
+
+step 'the second program by itself'
+cargo test --offline --quiet --manifest-path second/Cargo.toml
+cargo build --offline --quiet --release --manifest-path second/Cargo.toml
 
 step 'proofs, must-fail edits and programs'
 rt ci 2>&1 | tee "$log"
 bench="second/bench.sh target/bin/bench"
 
 step 'the archive for C'
+archive=target/staticlib/libshelf_c.a
 rt staticlib shelf_c >/dev/null
-second/driver/build.sh target/staticlib/libshelf_c.a target/driver
-second/driver/build.sh target/staticlib/libshelf_c.a target/case examples/case.c
+second/driver/build.sh $archive target/driver
+second/driver/build.sh $archive target/case examples/case.c
 second/driver/run.sh target/case | diff - examples/case.txt
-
-step 'the second program by itself'
-cargo test --offline --quiet --manifest-path second/Cargo.toml
-cargo build --offline --quiet --release --manifest-path second/Cargo.toml
 
 step "the library against the second program, $calls calls"
 second/target/release/differ 'second/driver/run.sh target/driver' "$calls"

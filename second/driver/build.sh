@@ -8,25 +8,13 @@ archive=$1
 program=$2
 source=${3:-$here/driver.c}
 
-install() {
-    for package; do
-        dpkg -s "$package" >/dev/null 2>&1 && continue
-        log=$(mktemp)
-        { apt-get update && apt-get install -y --no-install-recommends "$package"; } >"$log" 2>&1 || {
-            cat "$log" >&2
-            exit 1
-        }
-        rm -f "$log"
-    done
-}
-
 case $(uname -m) in
 x86_64)
-    command -v gcc >/dev/null || install gcc libc6-dev
+    command -v gcc >/dev/null || "$here/../../tests/install.sh" gcc libc6-dev
     compiler=gcc
     ;;
 *)
-    install gcc-x86-64-linux-gnu libc6-dev-amd64-cross
+    "$here/../../tests/install.sh" gcc-x86-64-linux-gnu libc6-dev-amd64-cross
     compiler=x86_64-linux-gnu-gcc
     ;;
 esac

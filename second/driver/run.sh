@@ -11,8 +11,5 @@ if [ -n "$rt" ]; then
     emulator=$kit/on/$machine/toolchain/bin/qemu-x86_64
     [ -x "$emulator" ] && exec "$emulator" "$@"
 fi
-command -v qemu-x86_64 >/dev/null || {
-    apt-get update >/dev/null 2>&1
-    apt-get install -y --no-install-recommends qemu-user >/dev/null 2>&1 || { echo "run.sh: no emulator" >&2; exit 1; }
-}
+command -v qemu-x86_64 >/dev/null || "$(dirname "$0")/../../tests/install.sh" qemu-user
 exec qemu-x86_64 "$@"

@@ -38,6 +38,9 @@ bench="second/bench.sh target/bin/bench"
 step 'the archive for C'
 archive=target/staticlib/libshelf_c.a
 rt staticlib shelf_c >/dev/null
+tests/archive.sh $archive | tr , '\n' | tests/at_most.sh README.md
+second/driver/build.sh $archive target/stack tests/stack.c
+second/driver/run.sh target/stack | tests/at_most.sh README.md
 second/driver/build.sh $archive target/driver
 second/driver/build.sh $archive target/case examples/case.c
 second/driver/run.sh target/case | diff - examples/case.txt

@@ -12,7 +12,14 @@
  *   number   256 or more is refused as any primitive number over 7: 5
  *   carried  256 or more is no byte: refused as 5, after the other causes of 5
  *
- * Sizes: phys 1 to 128 records of 12 bytes; routes 0 to 1,024 records of 12 bytes; permissions 2,048 bytes. */
+ * Sizes: phys 1 to 128 records of 12 bytes; routes 0 to 1,024 records of 12 bytes; permissions 2,048 bytes.
+ *
+ * The archive is code and constants alone. It calls nothing outside itself and has no variables: no C library, no heap, no
+ * globals. All that a call knows is in its arguments, so calls may run at once, on several cores or one interrupting another,
+ * where no buffer that one of them takes as not const overlaps a buffer of another. Calls that only read may share their tables;
+ * calls that share a table which one of them writes must not run at once: the caller lets one end before the next starts.
+ * Like any code of the x86-64 System V ABI it may use the 128 bytes below the stack pointer: an interrupt handler on the same
+ * stack must leave them as they are. README.md says how much stack each call takes. */
 #ifndef SHELF_H
 #define SHELF_H
 

@@ -35,6 +35,9 @@ step 'proofs, must-fail edits and programs'
 rt ci 2>&1 | tee "$log"
 bench="second/bench.sh target/bin/bench"
 
+step 'what each must-fail edit was refused at'
+python3 tests/edits.py target/must-fail
+
 step 'the archive for C'
 archive=target/staticlib/libshelf_c.a
 rt staticlib shelf_c >/dev/null

@@ -1,0 +1,88 @@
+#!/usr/bin/env python3
+"""What each must-fail edit was refused at. Reads the first error of every log that rt ci leaves, prints how many there are of each kind, and
+fails where an edit has no log, or was refused only because a proof no longer fits the code's shape: that shows nothing of what the edit gets
+wrong, since a right change of the same shape would be refused as well. A kind that is not listed here fails too: somebody has to look at it.
+
+edits.py LOGS    LOGS has CRATE/EDIT/.log for each crates/CRATE/must-fail/EDIT.edit
+edits.py LOGS --all    prints each edit with its first error too"""
+import collections, pathlib, re, sys, tempfile
+
+SHAPE = "the proof does not fit the code's shape"
+UNKNOWN = 'of a kind that tests/edits.py does not list'
+
+# The prover's own words, without the terms that it quotes. The first that fits counts.
+KINDS = [
+    (SHAPE, r'has no (field|member)? ?`|not in scope|takes no argument|stopped before the end of the file'),
+    ('an arithmetic fact does not follow', r'^`omega`'),
+    ('no proof of a fact is found', r'^`search`: no proof of|^it is not proved that'),
+    ('an equation does not follow from those known', r'equations had joined|the equations do not join'),
+    ('what is left to show is no equation of equal ends', r'must be a path whose two ends are equal'),
+    ('a comparison is false', r'does not hold'),
+    ('what is shown is another statement', r'the two types (first )?differ|expected type `'),
+]
+WORDS = ('`search`', '`omega`', '`cc`', '`rw`', '`simp`')
+
+
+def first_error(log):
+    """Where rt says "first at": the first error, else, where the proof is the prover's own, the first note that has a place."""
+    found = re.search(r'^(\S+): error: (?:`[^`]*`: )?(.*(?:\n[ \t].*)*)', log, re.M)
+    found = found or re.search(r'^note: (\S+:\d+:\d+): (.*)', log, re.M)
+    return found and (found[1], found[2])
+
+
+def kind(message):
+    words = re.sub(r'`[^`]*`', lambda quoted: quoted[0] if quoted[0] in WORDS else '`..`', message)
+    return next((name for name, pattern in KINDS if re.search(pattern, words)), UNKNOWN)
+
+
+def read(crates, logs):
+    """(edit, kind, first error) of each edit."""
+    for edit in sorted(crates.glob('*/must-fail/*.edit')):
+        name = f'{edit.parts[-3]}/{edit.stem}'
+        log = logs / name / '.log'
+        error = first_error(log.read_text(errors='replace')) if log.is_file() else None
+        if error:
+            place, message = error
+            yield name, kind(message), f'{place.split(name + "/")[-1]}: ' + ' '.join(message.split())
+        else:
+            yield name, 'no log with an error', ''
+
+
+def bad(found):
+    return [f'{name}: {kind}: {error[:300]}' for name, kind, error in found if kind not in dict(KINDS[1:])]
+
+
+def can_fail():
+    """Made-up logs: those that show nothing are named, the others are not."""
+    samples = {
+        'fact': '/p: error: `returns`: `search`: no proof of `a has no field `\n  was found.\n',
+        'own_proof': 'fn a: proved\nnote: /src/lib.rt:1:1: it is not proved that what the function ensures holds (`returns`)\n',
+        'later_shape': '/p: error: `x`: `omega`: it fails\n/p: error: `y`: record `lts.T` has no field `if1`\n',
+        'no_field': '/p: error: `x`: record `lts.T` has no field `if1`\n/p: error: `y`: `omega`: it fails\n',
+        'no_need': '/p: error: `x`: `tie` has no `Need-returns-2`\n',
+        'other': '/p: error: `x`: something else\n',
+        'silent': 'fn a: proved\n',
+        'lost': None,
+    }
+    with tempfile.TemporaryDirectory() as work:
+        crates, logs = pathlib.Path(work, 'crates'), pathlib.Path(work, 'logs')
+        (crates / 'c/must-fail').mkdir(parents=True)
+        for name, log in samples.items():
+            (crates / f'c/must-fail/{name}.edit').touch()
+            if log is not None:
+                (logs / 'c' / name).mkdir(parents=True)
+                (logs / 'c' / name / '.log').write_text(log)
+        named = [line.split(':')[0] for line in bad(read(crates, logs))]
+    if named != ['c/lost', 'c/no_field', 'c/no_need', 'c/other', 'c/silent']:
+        sys.exit(f'edits.py: of the made-up logs these are refused: {named}')
+
+
+can_fail()
+found = list(read(pathlib.Path(__file__).resolve().parent.parent / 'crates', pathlib.Path(sys.argv[1])))
+if '--all' in sys.argv:
+    for row in found:
+        print(' | '.join(row))
+for name, count in collections.Counter(kind for _, kind, _ in found).most_common():
+    print(f'{count} of {len(found)} edits: {name}')
+if not found or bad(found):
+    sys.exit('\n'.join(['edits.py: these edits show nothing:', *bad(found)]))

@@ -12,7 +12,7 @@ command -v rt >/dev/null || {
 say() { echo "bench.sh: $*" >&2; }
 
 if [ ! -x target/bin/bench ]; then
-    say "building the bench, which proves every crate that it stands on: some four minutes on two cores. Each is named once it is proved."
+    say "building the bench, which proves every crate that it stands on: some four minutes on two free cores. Each is named once it is proved."
 fi
 log=$(mktemp)
 trap 'rm -f "$log"' EXIT

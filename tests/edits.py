@@ -24,9 +24,11 @@ WORDS = ('`search`', '`omega`', '`cc`', '`rw`', '`simp`')
 
 
 def first_error(log):
-    """Where rt says "first at": the first error, else, where the proof is the prover's own, the first note that has a place."""
-    found = re.search(r'^(\S+): error: (?:`[^`]*`: )?(.*(?:\n[ \t].*)*)', log, re.M)
-    found = found or re.search(r'^note: (\S+:\d+:\d+): (.*)', log, re.M)
+    """The first error that does not only follow from another; else, where that other is in a proof of the prover's own, the first note with a place."""
+    errors = re.finditer(r'^(\S+): error: (?:`[^`]*`: )?(.*(?:\n[ \t].*)*)', log, re.M)
+    notes = re.finditer(r'^note: (\S+:\d+:\d+): (.*)', log, re.M)
+    own = (found for found in errors if not re.match(r'`[^`]*` was not admitted', found[2]))
+    found = next(own, None) or next(notes, None)
     return found and (found[1], found[2])
 
 
@@ -45,7 +47,7 @@ def read(crates, logs):
             place, message = error
             yield name, kind(message), f'{place.split(name + "/")[-1]}: ' + ' '.join(message.split())
         else:
-            yield name, 'no log with an error', ''
+            yield name, 'no log with an error of its own', ''
 
 
 def bad(found):
@@ -60,6 +62,9 @@ def can_fail():
         'later_shape': '/p: error: `x`: `omega`: it fails\n/p: error: `y`: record `lts.T` has no field `if1`\n',
         'no_field': '/p: error: `x`: record `lts.T` has no field `if1`\n/p: error: `y`: `omega`: it fails\n',
         'no_need': '/p: error: `x`: `tie` has no `Need-returns-2`\n',
+        'follows': '/p: error: `x`: `close` was not admitted, so\nnote: /src/lib.rt:1:1: it is not proved that it returns\n',
+        'follows_shape': '/p: error: `x`: `close` was not admitted, so\n/p: error: `y`: `tie` has no `Need-returns-2`\n',
+        'only_follows': '/p: error: `x`: `close` was not admitted, so\n',
         'other': '/p: error: `x`: something else\n',
         'silent': 'fn a: proved\n',
         'lost': None,
@@ -73,7 +78,7 @@ def can_fail():
                 (logs / 'c' / name).mkdir(parents=True)
                 (logs / 'c' / name / '.log').write_text(log)
         named = [line.split(':')[0] for line in bad(read(crates, logs))]
-    if named != ['c/lost', 'c/no_field', 'c/no_need', 'c/other', 'c/silent']:
+    if named != ['c/follows_shape', 'c/lost', 'c/no_field', 'c/no_need', 'c/only_follows', 'c/other', 'c/silent']:
         sys.exit(f'edits.py: of the made-up logs these are refused: {named}')
 
 

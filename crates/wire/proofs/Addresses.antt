@@ -1,12 +1,15 @@
 -- An address by its halves.
 -- Assumes nothing.
 use mathlib.Core.Path.{_≡_, refl, sym, ap, _∙_}
-use mathlib.Core.List.{List}
-use Prim.Native.Nat.{ℕ, zero, suc, _+_, _*_, _<_}
+use mathlib.Core.List.{List, append-nil}
+use Prim.Native.Nat.{ℕ, zero, suc, _+_, _*_, _≤_, _<_}
 use native.Mathlib.Nat.{zero-add}
 use native.Mathlib.Omega.{arith}
-use lib.ListN.{getD}
+use lib.ListN.{length, take, drop, getD, replicate, length-drop}
+use lib.Seq.{ext-getD, length-take-le, getD-take, getD-drop}
+use Rattle.wire.specs.Bits.{tab}
 use Rattle.wire.specs.Address.{bigEndian, addressAt}
+use Rattle.wire.proofs.Loops.{length-tab, getD-tab, Filled, fill-end}
 
 -- the bytes after the first n, behind the number that the first n make
 big-split : (s : List ℕ) (n m i high : ℕ) → bigEndian s (n + m) i high ≡ bigEndian s m (i + n) (bigEndian s n i high)
@@ -47,3 +50,54 @@ pub address-made : (s : List ℕ) (i a b : ℕ) → (a ≡ bigEndian s 4 i 0) ×
     → a * 4294967296 + b ≡ addressAt s i
 unfolding addressAt
 address-made s i a b ea eb = omega (arith, big-split s 4 4 i 0, high-4 s (i + 4) (bigEndian s 4 i 0))
+
+-- ---- eight bytes, copied
+abbrev pub byteFrom : List ℕ → ℕ → ℕ → ℕ
+byteFrom s i k = getD s (i + k) 0
+
+tab-taken : (s : List ℕ) (i n : ℕ) → i + n ≤ length s → tab (byteFrom s i) 0 n ≡ take n (drop i s)
+tab-taken s i n h =
+    let l : length (take n (drop i s)) ≡ n = length-take-le n (drop i s) (omega (arith, length-drop i s)) in
+    ext-getD 0 (tab (byteFrom s i) 0 n) (take n (drop i s)) (length-tab (byteFrom s i) 0 n ∙ sym l) each
+  where
+    each : (k : ℕ) → k < length (tab (byteFrom s i) 0 n) → getD (tab (byteFrom s i) 0 n) k 0 ≡ getD (take n (drop i s)) k 0
+    each k b =
+        let m : k < n = omega (arith, length-tab (byteFrom s i) 0 n) in
+        getD-tab (byteFrom s i) 0 n k m
+        ∙ ap (byteFrom s i) (zero-add k)
+        ∙ sym (getD-take n (drop i s) k 0 m ∙ getD-drop i s k 0)
+
+pub eight-end : (s d : List ℕ) (i k : ℕ) → i + 8 ≤ length s → 8 ≤ k → Filled (byteFrom s i) 8 (replicate 8 0) d k
+    → d ≡ take 8 (drop i s)
+eight-end s d i k l h r =
+    fill-end (byteFrom s i) 8 (replicate 8 0) d k h r ∙ append-nil (tab (byteFrom s i) 0 8) ∙ tab-taken s i 8 l
+
+-- n bytes that are s's from j on make the same number there
+big-moved : (s t : List ℕ) (n i j high : ℕ) → ((k : ℕ) → k < n → getD t (i + k) 0 ≡ getD s (j + k) 0)
+    → bigEndian t n i high ≡ bigEndian s n j high
+unfolding bigEndian
+big-moved s t zero i j high f = refl
+big-moved s t (suc n) i j high f =
+    ap (λ (x : ℕ). bigEndian t n (suc i) (high * 256 + x)) first ∙ big-moved s t n (suc i) (suc j) (high * 256 + getD s j 0) rest
+  where
+    first : getD t i 0 ≡ getD s j 0
+    first = let a : i + 0 ≡ i = omega arith in let b : j + 0 ≡ j = omega arith in ap (λ (k : ℕ). getD t k 0) (sym a) ∙ f 0 (omega arith) ∙ ap (λ (k : ℕ). getD s k 0) b
+
+    rest : (k : ℕ) → k < n → getD t (suc i + k) 0 ≡ getD s (suc j + k) 0
+    rest k h =
+        let a : suc i + k ≡ i + suc k = omega arith in
+        let b : j + suc k ≡ suc j + k = omega arith in
+        ap (λ (m : ℕ). getD t m 0) a ∙ f (suc k) (omega arith) ∙ ap (λ (m : ℕ). getD s m 0) b
+
+pub address-copied : (s e : List ℕ) (i a b : ℕ) → e ≡ take 8 (drop i s)
+    → (a ≡ bigEndian e 4 0 0) × (a < 4294967296) → (b ≡ bigEndian e 4 4 0) × (b < 4294967296)
+    → a * 4294967296 + b ≡ addressAt s i
+unfolding addressAt
+address-copied s e i a b q ea eb = address-made e 0 a b ea eb ∙ big-moved s e 8 0 i 0 same
+  where
+    same : (k : ℕ) → k < 8 → getD e (0 + k) 0 ≡ getD s (i + k) 0
+    same k h =
+        ap (λ (m : ℕ). getD e m 0) (zero-add k)
+        ∙ ap (λ (l : List ℕ). getD l k 0) q
+        ∙ getD-take 8 (drop i s) k 0 h
+        ∙ getD-drop i s k 0

@@ -1,7 +1,7 @@
 // What stands on the wire and in every lent table: phy numbers, zone groups, addresses and sets of phys.
 ghost use mathlib.Core.Path.{_≡_};
 ghost use Prim.Native.Nat.{_+_, _<_, _≤_};
-ghost use lib.ListN.{length};
+ghost use lib.ListN.{length, take, drop};
 ghost use Rattle.wire.specs.Groups.{groupOf, outsideGroup};
 ghost use Rattle.wire.specs.Address.{bigEndian, addressAt};
 ghost use Rattle.wire.specs.PhySet.{physIn};
@@ -47,12 +47,28 @@ fn four_at(bytes: &[u8], at: usize) -> u64
     two_at(bytes, at) * 65536 + two_at(bytes, at + 2)
 }
 
-// The address in the eight bytes from `at` on, by halves.
+// The eight bytes from `at` on. Of this loop a compiler makes one load, where eight bytes read one by one stay eight loads
+// as soon as they are used twice.
+pub fn eight_at(bytes: &[u8], at: usize) -> [u8; 8]
+    requires { ⌜ at + 8 ≤ length (now bytes) ⌝ }
+    ensures { λ r. ⌜ r ≡ take 8 (drop at (now (bytes .entry))) ⌝ }
+{
+    let mut eight: [u8; 8] = [0; 8];
+    let mut k: usize = 0;
+    while k < 8 {
+        eight[k] = bytes[at + k];
+        k += 1;
+    }
+    eight
+}
+
+// The address in the eight bytes from `at` on: of their copy, by halves, so that it is one load and a byte swap.
 pub fn address_at(bytes: &[u8], at: usize) -> u64
     requires { ⌜ at + 8 ≤ length (now bytes) ⌝ }
     ensures { λ r. ⌜ r ≡ addressAt (now (bytes .entry)) at ⌝ }
 {
-    four_at(bytes, at) * 4294967296 + four_at(bytes, at + 4)
+    let eight = eight_at(bytes, at);
+    four_at(&eight, 0) * 4294967296 + four_at(&eight, 4)
 }
 
 // How many phys the set's first sixteen bytes hold.

@@ -54,6 +54,12 @@ pub stands : (b r : Candidate) (p a : ℕ) → 0 < p → (a ≡ 0 → ⊥) → r
 unfolding best
 stands b r p a h n e = rw (lt-ltb 0 p h, ne-eqb a 0 n) e
 
+-- ---- both steps: a record of a lower priority than b is not elected, whether it stands or not
+pub lower : (b : Candidate) (v : Bool) (q p a : ℕ) → q ≡ p → q < b .priority → b ≡ best b (candidate v p a)
+unfolding best
+lower b true q p a e h = less b p a (omega arith) (λ i. omega arith)
+lower b false q p a e h = refl
+
 -- ---- `with_phy`, where k tells whether the phy is ready
 pub not-ready : (b : Candidate) (k v w : Bool) (p a : ℕ) → k ≡ v → not k ≡ true → b ≡ best b (candidate (v && w) p a)
 unfolding best

@@ -80,7 +80,7 @@ fn consider(b: Candidate, priority: u64, address: u64) -> Candidate
     step(b, priority, address)
 }
 
-// The best of b and a phy. Most phys have priority 0: their address is not read.
+// The best of b and a phy. Most phys have a lower priority than b, or 0: their address is not read.
 fn with_phy(b: Candidate, phys: &[u8], phy: PhyNumber) -> Candidate
     requires { ⌜ phy .0 < phyCount (now phys) ⌝ }
     ensures { λ r. ⌜ r ≡ best b (phyCandidate (now (phys .entry)) (phy .0)) ⌝ }
@@ -88,11 +88,14 @@ fn with_phy(b: Candidate, phys: &[u8], phy: PhyNumber) -> Candidate
     if !tables::is_ready(phys, phy) {
         return b;
     }
-    let priority = tables::phy_priority(phys, phy);
+    let priority = tables::phy_priority(phys, phy) as u64;
+    if priority < b.priority {
+        return b;
+    }
     if priority == 0 {
         return b;
     }
-    consider(b, priority as u64, tables::phy_address(phys, phy))
+    consider(b, priority, tables::phy_address(phys, phy))
 }
 
 // The best of b and a route record, likewise.
@@ -100,11 +103,14 @@ fn with_route(b: Candidate, routes: &[u8], i: usize) -> Candidate
     requires { ⌜ i < routeCount (now routes) ⌝ }
     ensures { λ r. ⌜ r ≡ best b (routeCandidate (now (routes .entry)) i) ⌝ }
 {
-    let priority = tables::route_priority(routes, i);
+    let priority = tables::route_priority(routes, i) as u64;
+    if priority < b.priority {
+        return b;
+    }
     if priority == 0 {
         return b;
     }
-    consider(b, priority as u64, tables::route_address(routes, i))
+    consider(b, priority, tables::route_address(routes, i))
 }
 
 // The best of b and the phy table.

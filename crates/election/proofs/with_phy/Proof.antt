@@ -1,6 +1,6 @@
 -- `election::with_phy` meets its contract.
 -- Assumes nothing.
-use Rattle.election.proofs.Steps.{not-ready, phy-zero, phy-considered}
+use Rattle.election.proofs.Steps.{lower, not-ready, phy-zero, phy-considered}
 use borrow.Author.Needs.{needs}
 use Rattle.election.proofs.with_phy.Statement.{statement}
 use Rattle.election.proofs.with_phy.Tie as tie
@@ -14,11 +14,14 @@ returns c = search not-ready
 phy-priority-requires : tie.Need-phy-priority-requires
 phy-priority-requires c κs = search needs
 
-returns-2 : tie.Need-returns-2
-returns-2 c = search phy-zero
+cast-priority : tie.Need-cast-priority
+cast-priority c = search needs
 
-cast-consider : tie.Need-cast-consider
-cast-consider c = search needs
+returns-2 : tie.Need-returns-2
+returns-2 c = search lower
+
+returns-3 : tie.Need-returns-3
+returns-3 c = search phy-zero
 
 phy-address-requires : tie.Need-phy-address-requires
 phy-address-requires c κs = search needs
@@ -26,8 +29,8 @@ phy-address-requires c κs = search needs
 consider-requires : tie.Need-consider-requires
 consider-requires c κs = search needs
 
-returns-3 : tie.Need-returns-3
-returns-3 c = search phy-considered
+returns-4 : tie.Need-returns-4
+returns-4 c = search phy-considered
 
 pub with-phy-spec : {M : Type 1} → statement M
 with-phy-spec =
@@ -36,8 +39,9 @@ with-phy-spec =
     is-ready-requires
     returns
     phy-priority-requires
+    cast-priority
     returns-2
-    cast-consider
+    returns-3
     phy-address-requires
     consider-requires
-    returns-3)
+    returns-4)

@@ -1,6 +1,6 @@
 -- `election::with_route` meets its contract.
 -- Assumes nothing.
-use Rattle.election.proofs.Steps.{route-zero, route-considered}
+use Rattle.election.proofs.Steps.{lower, route-zero, route-considered}
 use borrow.Author.Needs.{needs}
 use Rattle.election.proofs.with_route.Statement.{statement}
 use Rattle.election.proofs.with_route.Tie as tie
@@ -8,11 +8,14 @@ use Rattle.election.proofs.with_route.Tie as tie
 route-priority-requires : tie.Need-route-priority-requires
 route-priority-requires c κs = search needs
 
-returns : tie.Need-returns
-returns c = search route-zero
+cast-priority : tie.Need-cast-priority
+cast-priority c = search needs
 
-cast-consider : tie.Need-cast-consider
-cast-consider c = search needs
+returns : tie.Need-returns
+returns c = search lower
+
+returns-2 : tie.Need-returns-2
+returns-2 c = search route-zero
 
 route-address-requires : tie.Need-route-address-requires
 route-address-requires c κs = search needs
@@ -20,10 +23,17 @@ route-address-requires c κs = search needs
 consider-requires : tie.Need-consider-requires
 consider-requires c κs = search needs
 
-returns-2 : tie.Need-returns-2
-returns-2 c = search route-considered
+returns-3 : tie.Need-returns-3
+returns-3 c = search route-considered
 
 pub with-route-spec : {M : Type 1} → statement M
 with-route-spec =
     tie.close
-    (tie.spec route-priority-requires returns cast-consider route-address-requires consider-requires returns-2)
+    (tie.spec
+    route-priority-requires
+    cast-priority
+    returns
+    returns-2
+    route-address-requires
+    consider-requires
+    returns-3)

@@ -7,8 +7,8 @@ use Prim.Native.Nat.{ℕ, min, _≤_, _<_}
 use native.Mathlib.Omega.{arith}
 use borrow.Author.Tests.{not-false}
 use lib.Dec.{leb}
-use lib.ListN.{length, getD, drop, drop-of-length-le}
-use lib.Seq.{drop-cons}
+use lib.ListN.{length, take, drop}
+use lib.Seq.{take-all}
 use Rattle.permit.specs.Permission.{permissionsSized}
 use Rattle.tables.specs.Refusals.{Check, refuse, below, atMost, off, firstRefusal, Clear}
 use Rattle.tables.specs.Outcome.{Answer, refusal, out, outcome}
@@ -98,20 +98,9 @@ module _ (phys permissions set frame : List ℕ) where
         crosses 1 fs a bs _ e (q ∙ clamped (λ (x : ℕ). broadcastOut phys permissions x arrived set frame) broadcast-far p phy ep)
 
 -- ---- IDENTIFY
--- the eight bytes of an address, one by one
-pub eight-bytes : (s : List ℕ) → length s ≡ 8
-    → getD s 0 0 ∷ getD s 1 0 ∷ getD s 2 0 ∷ getD s 3 0 ∷ getD s 4 0 ∷ getD s 5 0 ∷ getD s 6 0 ∷ getD s 7 0 ∷ [] ≡ s
-eight-bytes s l =
-    let e0 : s ≡ getD s 0 0 ∷ drop 1 s = drop-cons s 0 0 (omega arith) in
-    let e1 = drop-cons s 1 0 (omega arith) in
-    let e2 = drop-cons s 2 0 (omega arith) in
-    let e3 = drop-cons s 3 0 (omega arith) in
-    let e4 = drop-cons s 4 0 (omega arith) in
-    let e5 = drop-cons s 5 0 (omega arith) in
-    let e6 = drop-cons s 6 0 (omega arith) in
-    let e7 = drop-cons s 7 0 (omega arith) in
-    let e8 : drop 8 s ≡ [] = drop-of-length-le s {i = 8} (omega arith) in
-    cc
+-- the first eight of eight bytes are all
+pub eight-bytes : (s r : List ℕ) → length s ≡ 8 → r ≡ take 8 (drop 0 s) → r ≡ s
+eight-bytes s r l e = e ∙ take-all 8 s (omega arith)
 
 module _ (phys address : List ℕ) where
   identify-far : (x y : ℕ) → 255 ≤ x → 255 ≤ y → identifyOutC phys x address ≡ identifyOutC phys y address

@@ -184,16 +184,7 @@ fn eight(address: &[u8]) -> [u8; 8]
     requires { ⌜ length (now address) ≡ 8 ⌝ }
     ensures { λ r. ⌜ r ≡ now (address .entry) ⌝ }
 {
-    [
-        address[0],
-        address[1],
-        address[2],
-        address[3],
-        address[4],
-        address[5],
-        address[6],
-        address[7],
-    ]
+    wire::eight_at(address, 0)
 }
 
 // The library takes eight bytes. Another length is refused as 4, but only after what the header puts before it.

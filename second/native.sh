@@ -1,7 +1,8 @@
 #!/bin/sh
 # Times the library beside the model on this machine.
 #
-# native.sh [ROOT]    ROOT is the repository, where it is not the folder above this one
+# native.sh [ROOT [RUNS]]    ROOT is the repository, where it is not the folder above this one; of several runs each row's
+#                            median is printed
 #
 # The library is for x86-64. On another machine this script compiles the very same bitcode for that machine instead: rt
 # runs from a shadow of the kit, all links but for clang, which is a wrapper that keeps a copy of the bitcode it is given.
@@ -68,4 +69,4 @@ else
     compile_for_this_machine
 fi
 SHELF_LIB=$lib cargo build --quiet --release --offline --features native --bin timing --manifest-path "$here/Cargo.toml"
-"$here/target/release/timing"
+"$here/target/release/timing" "${2:-1}"

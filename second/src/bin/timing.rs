@@ -349,51 +349,79 @@ enum Runs {
     OneForEachPhy,
 }
 
-fn main() {
-    println!("median ns for one call, {ROUNDS} rounds{:26}Rattle     Rust    ratio", "");
-    let full = || shelf(128, 1024);
-    case("OPEN, 128 phys, 1,024 routes, the last fits", OPEN, open_to(full(), 128 + 1023), Runs::Many);
-    case("OPEN, 128 phys, 1,024 routes, none fits", OPEN, open_to(full(), NOWHERE), Runs::Many);
-    case("primitive, 128 phys, all told", PRIMITIVE, full(), Runs::Many);
-    case("primitive, 128 phys, half told", PRIMITIVE, half_told(full()), Runs::Many);
-    case("C1h single", SMP, single(full()), Runs::Many);
-    case("C1h batch of 63 rows", SMP, batch(full(), 63), Runs::Many);
-    case("93h of 128 descriptors", SMP, configure_phys(full(), 128), Runs::Many);
-    case("51h of 63 rows", SMP, report(full(), 63), Runs::Many);
-    case("election over 128 phys and 1,024 routes", ELECT, full(), Runs::Many);
-    case("IDENTIFY, another address", IDENTIFY, other_address(full()), Runs::OneForEachPhy);
-    case("leaving", LEAVING, full(), Runs::OneForEachPhy);
-    case("start-up", START_UP, full(), Runs::Many);
-    println!();
-    growth();
+/// The median times of one case, in nanoseconds for one call.
+struct Row {
+    name: String,
+    rattle: f64,
+    rust: f64,
 }
 
-fn growth() {
+/// The number of runs is the first argument, else 1. What is printed of several runs is each row's median, for other work
+/// on the machine disturbs some of them.
+fn main() {
+    let runs: usize = std::env::args().nth(1).map_or(1, |runs| runs.parse().expect("a number of runs"));
+    println!("median ns for one call, {ROUNDS} rounds, {runs} runs{:18}Rattle     Rust    ratio", "");
+    print((0..runs).map(|_| hardest()).collect());
+    println!();
+    print((0..runs).map(|_| growth()).collect());
+}
+
+fn print(runs: Vec<Vec<Row>>) {
+    for (i, Row { name, .. }) in runs[0].iter().enumerate() {
+        let rattle = median(runs.iter().map(|rows| rows[i].rattle).collect());
+        let rust = median(runs.iter().map(|rows| rows[i].rust).collect());
+        let ratio = median(runs.iter().map(|rows| rows[i].rattle / rows[i].rust).collect());
+        println!("{name:50} {rattle:12.1} {rust:8.1} {ratio:8.2}");
+    }
+}
+
+fn hardest() -> Vec<Row> {
+    let full = || shelf(128, 1024);
+    vec![
+        case("OPEN, 128 phys, 1,024 routes, the last fits", OPEN, open_to(full(), 128 + 1023), Runs::Many),
+        case("OPEN, 128 phys, 1,024 routes, none fits", OPEN, open_to(full(), NOWHERE), Runs::Many),
+        case("primitive, 128 phys, all told", PRIMITIVE, full(), Runs::Many),
+        case("primitive, 128 phys, half told", PRIMITIVE, half_told(full()), Runs::Many),
+        case("C1h single", SMP, single(full()), Runs::Many),
+        case("C1h batch of 63 rows", SMP, batch(full(), 63), Runs::Many),
+        case("93h of 128 descriptors", SMP, configure_phys(full(), 128), Runs::Many),
+        case("51h of 63 rows", SMP, report(full(), 63), Runs::Many),
+        case("election over 128 phys and 1,024 routes", ELECT, full(), Runs::Many),
+        case("IDENTIFY, another address", IDENTIFY, other_address(full()), Runs::OneForEachPhy),
+        case("leaving", LEAVING, full(), Runs::OneForEachPhy),
+        case("start-up", START_UP, full(), Runs::Many),
+    ]
+}
+
+fn growth() -> Vec<Row> {
+    let mut rows = Vec::new();
     for phys in [8, 32, 128] {
-        case(&format!("OPEN, {phys} phys, no routes, none fits"), OPEN, open_to(shelf(phys, 0), NOWHERE), Runs::Many);
+        let lent = open_to(shelf(phys, 0), NOWHERE);
+        rows.push(case(&format!("OPEN, {phys} phys, no routes, none fits"), OPEN, lent, Runs::Many));
     }
     for routes in [64, 256, 1024] {
         let lent = open_to(shelf(128, routes), NOWHERE);
-        case(&format!("OPEN, 128 phys, {routes} routes, none fits"), OPEN, lent, Runs::Many);
+        rows.push(case(&format!("OPEN, 128 phys, {routes} routes, none fits"), OPEN, lent, Runs::Many));
     }
     for phys in [8, 32, 128] {
-        case(&format!("primitive, {phys} phys"), PRIMITIVE, shelf(phys, 0), Runs::Many);
+        rows.push(case(&format!("primitive, {phys} phys"), PRIMITIVE, shelf(phys, 0), Runs::Many));
     }
-    for rows in [1, 4, 16, 63] {
-        case(&format!("C1h batch, rows {rows}"), SMP, batch(shelf(128, 0), rows), Runs::Many);
+    for k in [1, 4, 16, 63] {
+        rows.push(case(&format!("C1h batch, rows {k}"), SMP, batch(shelf(128, 0), k), Runs::Many));
     }
     for k in [1, 8, 32, 128] {
-        case(&format!("93h, descriptors {k}"), SMP, configure_phys(shelf(128, 0), k), Runs::Many);
+        rows.push(case(&format!("93h, descriptors {k}"), SMP, configure_phys(shelf(128, 0), k), Runs::Many));
     }
-    for rows in [1, 16, 63] {
-        case(&format!("51h, rows {rows}"), SMP, report(shelf(128, 0), rows), Runs::Many);
+    for k in [1, 16, 63] {
+        rows.push(case(&format!("51h, rows {k}"), SMP, report(shelf(128, 0), k), Runs::Many));
     }
     for routes in [0, 256, 1024] {
-        case(&format!("election, 128 phys, {routes} routes"), ELECT, shelf(128, routes), Runs::Many);
+        rows.push(case(&format!("election, 128 phys, {routes} routes"), ELECT, shelf(128, routes), Runs::Many));
     }
+    rows
 }
 
-fn case(name: &str, pair: Pair, lent: Lent, runs: Runs) {
+fn case(name: &str, pair: Pair, lent: Lent, runs: Runs) -> Row {
     agree(name, pair, &lent);
     let mut work = lent.clone();
     let (repeat, calls) = match runs {
@@ -413,7 +441,7 @@ fn case(name: &str, pair: Pair, lent: Lent, runs: Runs) {
         }
     }
     let [rattle, rust] = times.map(median);
-    println!("{name:50} {rattle:12.1} {rust:8.1} {:8.2}", rattle / rust);
+    Row { name: name.to_string(), rattle, rust }
 }
 
 /// Both programs must do the same and must not refuse.

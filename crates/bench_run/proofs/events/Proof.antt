@@ -1,4 +1,4 @@
--- `bench_run::events` is safe and ends: the number of the next event, with the turns that are left, fits.
+-- `bench_run::events` is safe and ends: the number of the next event, with the turns and events that are left, fits.
 -- Assumes nothing.
 use mathlib.Core.Path.{_≡_}
 use Prim.Native.Nat.{_+_, _≤_}
@@ -8,12 +8,12 @@ use Rattle.bench_run.proofs.events.Statement.{statement}
 use Rattle.bench_run.proofs.events.Tie as tie
 
 abbrev Inv-loop : tie.InvT-loop
-Inv-loop fd phys₀ permissions₀ window₀ text₀ first number₀ left₀ at₀ have₀ used₀ go₀ phys permissions window text number left at have used go =
+Inv-loop fd phys₀ permissions₀ window₀ text₀ number₀ left₀ at₀ have₀ go₀ phys permissions window text number left at have go =
     (length phys₀ ≡ length phys) × (length permissions₀ ≡ length permissions) × (length window₀ ≡ length window) × (length text₀ ≡ length text)
-    × (number + left ≤ 18446744073709551615) × (at ≤ have) × (have ≤ length window) × (used + 64 ≤ length text)
+    × (number + left ≤ 18446744073709551615) × (at ≤ have) × (have ≤ length window)
 
 abbrev μ-loop : tie.MeasureT-loop
-μ-loop fd phys₀ permissions₀ window₀ text₀ first number₀ left₀ at₀ have₀ used₀ go₀ phys permissions window text number left at have used go = left
+μ-loop fd phys₀ permissions₀ window₀ text₀ number₀ left₀ at₀ have₀ go₀ phys permissions window text number left at have go = left
 
 sub-left : tie.Need-sub-left Inv-loop μ-loop
 sub-left c = search needs
@@ -27,8 +27,11 @@ sub-left-2 c = search needs
 turn-requires : tie.Need-turn-requires Inv-loop μ-loop
 turn-requires c κs = search needs
 
-add-number : tie.Need-add-number Inv-loop μ-loop
-add-number c = search needs
+sub-left-3 : tie.Need-sub-left-3 Inv-loop μ-loop
+sub-left-3 c = search needs
+
+sub-left-4 : tie.Need-sub-left-4 Inv-loop μ-loop
+sub-left-4 c = search needs
 
 loop-less : tie.Need-loop-less Inv-loop μ-loop
 loop-less c = search needs
@@ -36,14 +39,29 @@ loop-less c = search needs
 loop-again : tie.Need-loop-again Inv-loop μ-loop
 loop-again c = search needs
 
-loop-less-2 : tie.Need-loop-less-2 Inv-loop μ-loop
-loop-less-2 c = search needs
+sub-end-line : tie.Need-sub-end-line Inv-loop μ-loop
+sub-end-line c = search needs
 
-loop-again-2 : tie.Need-loop-again-2 Inv-loop μ-loop
-loop-again-2 c = search needs
+part-end-line-start : tie.Need-part-end-line-start Inv-loop μ-loop
+part-end-line-start c = search needs
 
-finish-requires : tie.Need-finish-requires Inv-loop μ-loop
-finish-requires c κs = search needs
+part-end-line-end : tie.Need-part-end-line-end Inv-loop μ-loop
+part-end-line-end c = search needs
+
+end-line-requires : tie.Need-end-line-requires Inv-loop μ-loop
+end-line-requires c κs = search needs
+
+sub-write-all : tie.Need-sub-write-all Inv-loop μ-loop
+sub-write-all c = search needs
+
+part-write-all-start : tie.Need-part-write-all-start Inv-loop μ-loop
+part-write-all-start c = search needs
+
+part-write-all-end : tie.Need-part-write-all-end Inv-loop μ-loop
+part-write-all-end c = search needs
+
+write-all-requires : tie.Need-write-all-requires Inv-loop μ-loop
+write-all-requires c κs = search needs
 
 same-length : tie.Need-same-length Inv-loop μ-loop
 same-length c = search needs
@@ -70,12 +88,18 @@ events-spec =
     loop-holds
     sub-left-2
     turn-requires
-    add-number
+    sub-left-3
+    sub-left-4
     loop-less
     loop-again
-    loop-less-2
-    loop-again-2
-    finish-requires
+    sub-end-line
+    part-end-line-start
+    part-end-line-end
+    end-line-requires
+    sub-write-all
+    part-write-all-start
+    part-write-all-end
+    write-all-requires
     same-length
     same-length-2
     same-length-3

@@ -61,11 +61,18 @@ fn turn(
 }
 
 // Runs all events of fd. `left` shows that the loop ends and that the numbers fit: no input has as many bytes.
-fn events(fd: i32, phys: &mut [u8], permissions: &mut [u8], window: &mut [u8], text: &mut [u8])
+fn events(
+    fd: i32,
+    phys: &mut [u8],
+    permissions: &mut [u8],
+    window: &mut [u8],
+    text: &mut [u8],
+    first: u64,
+)
     requires { ⌜ (length (now window) ≡ 131072) × (64 ≤ length (now text)) ⌝ }
 {
-    let mut number: u64 = 1;
-    let mut left: u64 = u64::MAX - 1;
+    let mut number = first;
+    let mut left = u64::MAX - first;
     let mut at: usize = 0;
     let mut have: usize = 0;
     let mut go = true;
@@ -88,8 +95,15 @@ pub fn run(fd: i32) {
     let mut permissions = [0u8; 2048];
     let mut window = [0u8; 131072];
     let mut text = [0u8; 65536];
-    rack::start(&mut phys, &mut permissions);
-    let n = rack::first_line(&mut text);
-    io::write_all(STDOUT_FILENO, &text[0..n]);
-    events(fd, &mut phys, &mut permissions, &mut window, &mut text);
+    let p = bench_text::begin(&mut phys, &mut permissions, &mut text);
+    let used = p.used;
+    io::write_all(STDOUT_FILENO, &text[0..used]);
+    events(
+        fd,
+        &mut phys,
+        &mut permissions,
+        &mut window,
+        &mut text,
+        p.number,
+    );
 }

@@ -2,14 +2,14 @@
 -- Assumes nothing.
 use mathlib.Core.Path.{_≡_, refl, sym, ap, _∙_}
 use mathlib.Core.List.{List, [], _∷_, _++_}
-use Prim.Native.Nat.{ℕ, zero, suc, _+_, _≤_, _<_}
+use Prim.Native.Nat.{ℕ, suc, _+_, _≤_, _<_}
 use native.Mathlib.Numerals.{add-one}
 use native.Mathlib.Nat.{zero-add}
 use native.Mathlib.Omega.{arith}
 use lib.ListN.{length, take, drop, getD, set, length-set, length-drop}
-use lib.Seq.{sets, take-suc, length-take-le, getD-set-other, getD-drop}
+use lib.Seq.{take-suc, length-take-le, getD-set-other, getD-drop}
 use Rattle.rack.specs.Inner.{written}
-use Rattle.rack.proofs.Lines.{length-written, written-append}
+use Rattle.rack.proofs.Lines.{written-append}
 
 past : (vs l : List ℕ) (at j : ℕ) → at + length vs ≤ j → getD (written l at vs) j 0 ≡ getD l j 0
 unfolding written

@@ -4,7 +4,7 @@ use mathlib.Core.Path.{_≡_, refl, sym, ap, _∙_}
 use mathlib.Core.List.{List, [], _∷_, _++_, append-nil, append-assoc}
 use Prim.Native.Nat.{ℕ, zero, suc, _+_, _-_, _≤_, _<_}
 use native.Mathlib.Nat.{add-zero, zero-add, add-assoc, sub-zero, sub-self}
-use native.Mathlib.Decide.{ℕ-discrete, decLt}
+use native.Mathlib.Decide.{decLt}
 use native.Mathlib.Omega.{arith}
 use borrow.Author.Tests.{eq-eqb, ne-eqb, lt-ltb, le-ltb}
 use lib.ListN.{length, take, drop, length-take, length-drop, drop-of-length-le}
@@ -16,7 +16,7 @@ use Rattle.rack.specs.Inner.{written, Wrote, Lined}
 use Rattle.rack.proofs.Lines.{behind}
 use Rattle.bench_text.specs.Stream.{ending}
 use Rattle.bench_text.specs.Run.{Ran, stopped, onward, ready, runOf, runOver, Put, Told, Within}
-use Rattle.bench_text.proofs.StreamLaws.{WholeEvent, whole-event}
+use Rattle.bench_text.proofs.StreamLaws.{whole-event}
 
 -- ---- the event that is run next
 pub no-room : (room : ℕ) (bytes : List ℕ) → room < 64 → (0 ≡ ready room bytes) × (0 ≤ length bytes)

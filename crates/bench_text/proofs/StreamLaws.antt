@@ -6,7 +6,7 @@ use Prim.Native.Nat.{ℕ, zero, suc, _+_, _*_, _≤_, _<_}
 use native.Mathlib.Decide.{ℕ-discrete, decLt}
 use native.Mathlib.Omega.{arith}
 use borrow.Author.Tests.{eq-eqb, ne-eqb, lt-ltb, le-ltb}
-use lib.ListN.{length, take, drop, getD, length-append, length-drop, List·getD-append}
+use lib.ListN.{length, drop, getD, length-append, length-drop, List·getD-append}
 use Rattle.rack.specs.Text.{line}
 use Rattle.rack.specs.Events.{eventLength}
 use Rattle.bench_text.specs.Stream.{ending, frontGives, linesOf, eventsText}

@@ -11,16 +11,14 @@ use borrow.Author.Tests.{le-ltb}
 use lib.Dec.{ltb}
 use lib.ListN.{length, take, drop, length-append, length-drop}
 use lib.Seq.{take-append-le, drop-append-le, drop-drop}
-use Rattle.permit.specs.Permission.{startTable}
-use Rattle.rack.specs.Rack.{rackTable}
 use Rattle.rack.specs.Text.{line}
 use Rattle.rack.specs.Words.{firstLine}
 use Rattle.rack.specs.Events.{eventGives, eventLength}
-use Rattle.bench_text.specs.Stream.{ending, frontGives, eventsText, wholeText}
-use Rattle.bench_text.specs.Run.{Ran, stopped, onward, ready, runOf, runOver}
+use Rattle.bench_text.specs.Stream.{ending, eventsText, wholeText}
+use Rattle.bench_text.specs.Run.{Ran, ready, runOf, runOver}
 use Rattle.bench_text.specs.Turns.{Turn, bytes, run, Stage, start, ranAt, after, stageAfter, cameIn, saidIn, WholeText}
 use Rattle.bench_text.proofs.StreamLaws.{whole-event, front-same, text-step, text-end}
-use Rattle.bench_text.proofs.RunLaws.{Next, next-is, run-none, run-step}
+use Rattle.bench_text.proofs.RunLaws.{next-is, run-none, run-step}
 
 -- the text that a run leaves to do, where `more` follows its window
 abbrev leftBy : Ran → List ℕ → List ℕ → List ℕ

@@ -1,11 +1,14 @@
 -- A run over the whole events at the front of a window: what it takes, what it writes, and the tables that it leaves.
 use mathlib.Core.Path.{_≡_}
 use mathlib.Core.Bool.{cond}
-use mathlib.Core.List.{List, [], _∷_, _++_}
+use mathlib.Core.List.{List, [], _++_}
 use Prim.Native.Nat.{ℕ, zero, suc, _+_, _-_, _≤_}
 use lib.Dec.{eqb, ltb}
 use lib.ListN.{length, drop}
+use Rattle.permit.specs.Permission.{startTable}
+use Rattle.rack.specs.Rack.{rackTable}
 use Rattle.rack.specs.Text.{line}
+use Rattle.rack.specs.Words.{firstLine}
 use Rattle.rack.specs.Events.{Given, eventLength}
 use Rattle.rack.specs.Inner.{Wrote}
 use Rattle.bench_text.specs.Stream.{frontGives}
@@ -17,6 +20,10 @@ pub record Ran : Type 0 where
   pub lines : List ℕ
   pub phys : List ℕ
   pub permissions : List ℕ
+
+-- "The first line is fixed.", "number from 1", on the bench rack with "permissions as at start-up": what there is before any event
+abbrev pub begun : Ran
+begun = record { taken = 0; number = 1; lines = firstLine; phys = rackTable; permissions = startTable 16 }
 
 abbrev pub stopped : ℕ → List ℕ → List ℕ → Ran
 stopped number phys permissions = record { taken = 0; number = number; lines = []; phys = phys; permissions = permissions }
@@ -55,7 +62,7 @@ pub record Put (number : ℕ) (g : Given) (text : List ℕ) (used end : ℕ) (te
   pub phys : phys₁ ≡ g .phys
   pub permissions : permissions₁ ≡ g .permissions
 
--- the run's answer, its lines at the front of the text, and the tables
+-- a run's answer, its lines at the front of the text, and the tables
 pub record Told (r : Ran) (text : List ℕ) (taken₁ number₁ used₁ : ℕ) (text₁ phys₁ permissions₁ : List ℕ) : Type 0 where
   pub taken : taken₁ ≡ r .taken
   pub number : number₁ ≡ r .number

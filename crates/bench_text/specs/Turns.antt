@@ -3,12 +3,9 @@ use mathlib.Core.Path.{_≡_}
 use mathlib.Core.List.{List, [], _∷_, _++_}
 use Prim.Native.Nat.{ℕ}
 use lib.ListN.{drop}
-use Rattle.permit.specs.Permission.{startTable}
-use Rattle.rack.specs.Rack.{rackTable}
-use Rattle.rack.specs.Words.{firstLine}
 use Rattle.rack.specs.Events.{eventLength}
 use Rattle.bench_text.specs.Stream.{ending, wholeText}
-use Rattle.bench_text.specs.Run.{Ran, runOver}
+use Rattle.bench_text.specs.Run.{Ran, begun, runOver}
 
 -- these bytes were read; or a run was made over all that wait, into a text of so many bytes
 pub data Turn : Type 0 where
@@ -22,9 +19,9 @@ pub record Stage : Type 0 where
   pub phys : List ℕ
   pub permissions : List ℕ
 
--- "The bench rack's eight phys are a fixed table, .. permissions as at start-up", "number from 1"
+-- no byte was read yet
 abbrev pub start : Stage
-start = record { waits = []; number = 1; phys = rackTable; permissions = startTable 16 }
+start = record { waits = []; number = begun .number; phys = begun .phys; permissions = begun .permissions }
 
 abbrev pub ranAt : Stage → ℕ → Ran
 ranAt s room = runOver (s .waits) (s .number) room (s .phys) (s .permissions)
@@ -59,4 +56,4 @@ saidIn (run room ∷ ts) s = (ranAt s room) .lines ++ saidIn ts (after (run room
 abbrev pub WholeText : Type 0
 WholeText =
     (ts : List Turn) → eventLength ((stageAfter ts start) .waits) ≡ 0
-    → firstLine ++ saidIn ts start ++ ending ((stageAfter ts start) .number) ((stageAfter ts start) .waits) ≡ wholeText (cameIn ts)
+    → begun .lines ++ saidIn ts start ++ ending ((stageAfter ts start) .number) ((stageAfter ts start) .waits) ≡ wholeText (cameIn ts)

@@ -5,13 +5,27 @@ ghost use lib.ListN.{length, take, drop};
 ghost use Rattle.rack.specs.Events.{eventGives};
 ghost use Rattle.rack.specs.Inner.{written, Wrote};
 ghost use Rattle.bench_text.specs.Stream.{ending};
-ghost use Rattle.bench_text.specs.Run.{ready, runOver, Told, Within, Put};
+ghost use Rattle.bench_text.specs.Run.{begun, ready, runOver, Told, Within, Put};
 
 // How far a run came: the bytes that it took, the next event's number, and the bytes of text that it wrote.
 pub struct Progress {
     pub taken: usize,
     pub number: u64,
     pub used: usize,
+}
+
+// The rack as it stands before any event, and the first line.
+pub fn begin(phys: &mut [u8], permissions: &mut [u8], text: &mut [u8]) -> Progress
+    requires { ⌜ (length (now phys) ≡ 96) × (length (now permissions) ≡ 2048) × (64 ≤ length (now text)) ⌝ }
+    ensures { λ r. ⌜ Told begun (now (text .entry)) (r .taken) (r .number) (r .used) (now (text .exit)) (now (phys .exit)) (now (permissions .exit)) × (r .used ≤ length (now (text .entry))) ⌝ }
+{
+    rack::start(phys, permissions);
+    let n = rack::first_line(text);
+    Progress {
+        taken: 0,
+        number: 1,
+        used: n,
+    }
 }
 
 // How many bytes the event has that is run next; 0 where there is none, or no room for its line.

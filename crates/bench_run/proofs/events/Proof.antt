@@ -8,12 +8,12 @@ use Rattle.bench_run.proofs.events.Statement.{statement}
 use Rattle.bench_run.proofs.events.Tie as tie
 
 abbrev Inv-loop : tie.InvT-loop
-Inv-loop fd phys₀ permissions₀ window₀ text₀ number₀ left₀ at₀ have₀ go₀ phys permissions window text number left at have go =
+Inv-loop fd phys₀ permissions₀ window₀ text₀ first number₀ left₀ at₀ have₀ go₀ phys permissions window text number left at have go =
     (length phys₀ ≡ length phys) × (length permissions₀ ≡ length permissions) × (length window₀ ≡ length window) × (length text₀ ≡ length text)
     × (number + left ≤ 18446744073709551615) × (at ≤ have) × (have ≤ length window)
 
 abbrev μ-loop : tie.MeasureT-loop
-μ-loop fd phys₀ permissions₀ window₀ text₀ number₀ left₀ at₀ have₀ go₀ phys permissions window text number left at have go = left
+μ-loop fd phys₀ permissions₀ window₀ text₀ first number₀ left₀ at₀ have₀ go₀ phys permissions window text number left at have go = left
 
 sub-left : tie.Need-sub-left Inv-loop μ-loop
 sub-left c = search needs

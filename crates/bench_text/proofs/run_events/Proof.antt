@@ -1,6 +1,5 @@
 -- `bench_text::run_events` meets its contract: what is run so far and what is left to run are the whole run.
 -- Assumes nothing.
-use mathlib.Core.Path.{_≡_}
 use Prim.Native.Nat.{_-_, _<_, _≤_}
 use lib.ListN.{length}
 use native.Mathlib.Omega.{arith}

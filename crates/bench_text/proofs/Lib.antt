@@ -3,3 +3,4 @@ pub mod RunLaws
 pub mod KeepLaws
 pub mod Whole
 pub mod Unique
+pub mod Worked

@@ -1,3 +1,4 @@
 pub mod Stream
 pub mod Run
 pub mod Turns
+pub mod Cases

@@ -100,17 +100,10 @@ going-start window number text phys permissions n e = record {
 }
 
 module _ (window : List ℕ) (number₀ : ℕ) (text₀ phys₀ permissions₀ phys permissions text : List ℕ) (at number used n : ℕ) where
-  next-at : 0 < n → Going window number₀ text₀ phys₀ permissions₀ phys permissions text at number used n
+  -- the event is whole, and the text has room for a line
+  pub next-at : 0 < n → Going window number₀ text₀ phys₀ permissions₀ phys permissions text at number used n
       → Next (length text - used) (drop at window) n
   next-at z r = next-is (length text - used) (drop at window) n (r .next) z
-
-  -- the event is whole, and the text has room for a line
-  pub can-put : 0 < n → Going window number₀ text₀ phys₀ permissions₀ phys permissions text at number used n
-      → (5 ≤ length (take (at + n - at) (drop at window))) × (used + 64 ≤ length text)
-  can-put z r =
-      let l = (next-at z r) .least in
-      let f = (next-at z r) .fits in
-      (simp (length-take, length-drop) (omega arith), omega arith)
 
   pub going-again : (used₁ : ℕ) (text₁ phys₁ permissions₁ : List ℕ) (n₁ : ℕ) → 0 < n
       → Put number (eventGives (take (at + n - at) (drop at window)) phys permissions) text used used₁ text₁ phys₁ permissions₁

@@ -1,9 +1,9 @@
 -- `bench_text::run_events` meets its contract: what is run so far and what is left to run are the whole run.
 -- Assumes nothing.
 use Prim.Native.Nat.{_-_, _<_, _≤_}
-use lib.ListN.{length}
+use lib.ListN.{length, length-take, length-drop}
 use native.Mathlib.Omega.{arith}
-use Rattle.bench_text.proofs.RunLaws.{Going, going-start, can-put, going-again, going-end}
+use Rattle.bench_text.proofs.RunLaws.{Going, going-start, next-at, going-again, going-end}
 use Rattle.bench_text.proofs.run_events.Statement.{statement}
 use Rattle.bench_text.proofs.run_events.Tie as tie
 
@@ -36,7 +36,11 @@ put-event-requires : tie.Need-put-event-requires Inv-loop μ-loop
 put-event-requires c κs =
     let l = c .before .before .before .before .before .loop in
     let z : 0 < l .n = omega arith in
-    can-put _ _ _ _ _ _ _ _ _ _ _ _ z (l .inv)
+    let x = next-at _ _ _ _ _ _ _ _ _ _ _ _ z (l .inv) in
+    let fits = x .fits in
+    let least = x .least in
+    let inside = l .inv .inside in
+    (simp (length-take, length-drop) (omega arith), omega arith)
 
 add-next : tie.Need-add-next Inv-loop μ-loop
 add-next c = omega arith

@@ -3,13 +3,13 @@
 use mathlib.Core.Path.{_≡_, refl, sym, ap, _∙_}
 use mathlib.Core.Bool.{Bool, true, false, cond}
 use mathlib.Core.List.{List, [], _∷_, _++_, append-nil, append-assoc}
-use Prim.Native.Nat.{ℕ, zero, suc, _+_, _-_, _≤_, _<_}
+use Prim.Native.Nat.{ℕ, zero, suc, _+_, _-_, _*_, _≤_, _<_}
 use native.Mathlib.Nat.{sub-zero}
 use native.Mathlib.Decide.{ℕ-discrete}
 use native.Mathlib.Omega.{arith}
 use borrow.Author.Tests.{le-ltb}
 use lib.Dec.{ltb}
-use lib.ListN.{length, take, drop, length-append, length-drop}
+use lib.ListN.{length, take, drop, getD, length-append, length-drop}
 use lib.Seq.{take-append-le, drop-append-le, drop-drop}
 use Rattle.rack.specs.Text.{line}
 use Rattle.rack.specs.Words.{firstLine}
@@ -133,3 +133,12 @@ run-stops (suc most) window number room phys permissions h =
         let a : room - length (l ++ r .lines) ≡ room - length l - length (r .lines) = rw length-append (omega arith) in
         ap (λ (y : Ran). ready (room - length (y .lines)) (drop (y .taken) window)) (run-step most window number room phys permissions n refl z)
         ∙ rw (a, ← drop-drop (r .taken) n window) (next (drop n window) (number + 1) (room - length l) (g .phys) (g .permissions) d)
+
+-- A window of 65,540 bytes has a whole event at its front, whatever they are: so one that is larger has room to read while no event is whole.
+pub window-enough : (window : List ℕ) → getD window 3 0 < 256 → getD window 4 0 < 256 → 65540 ≤ length window → eventLength window ≡ 0 → ⊥
+unfolding eventLength
+window-enough window h l n e =
+    let a : 5 ≤ length window = omega arith in
+    let b : 5 + (getD window 3 0 * 256 + getD window 4 0) ≤ length window = omega arith in
+    let q : 5 + (getD window 3 0 * 256 + getD window 4 0) ≡ 0 = rw (le-ltb _ _ a, le-ltb _ _ b) at e in
+    omega arith

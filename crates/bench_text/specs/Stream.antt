@@ -28,7 +28,7 @@ linesOf (suc most) bytes number phys permissions =
     ++ linesOf most (drop (eventLength bytes) bytes) (number + 1)
     ((frontGives bytes phys permissions) .phys) ((frontGives bytes phys permissions) .permissions))
 
--- an event has five bytes at least, so there are fewer events than bytes
+-- an event has five bytes at least, so there are no more events than bytes
 abbrev pub eventsText : List ℕ → ℕ → List ℕ → List ℕ → List ℕ
 eventsText bytes number phys permissions = linesOf (length bytes) bytes number phys permissions
 

@@ -196,10 +196,3 @@ pub cut-done : (number : ℕ) (t : List ℕ) (a : ℕ) (t₁ : List ℕ) (b : �
 unfolding line
 cut-done number t a t₁ b t₂ p q =
     (rw (append-assoc (decimal number) (space ∷ T ∷ []) (10 ∷ [])) (behind (p .0) q), omega (arith, q .ends))
-
-pub written-whole : (t w : List ℕ) → length w ≡ length t → written t 0 w ≡ w
-unfolding written
-written-whole t w e =
-    let h : 0 + length w ≤ length t = omega arith in
-    let k : length t ≤ length w = omega arith in
-    sets-eq w t 0 h ∙ rw (zero-add (length w), drop-of-length-le t {i = length w} k) (append-nil w)

@@ -220,16 +220,6 @@ fn leaving_words(
     }
 }
 
-// The payload as the array that IDENTIFY is handed.
-fn eight(payload: &[u8]) -> [u8; 8]
-    requires { ⌜ length (now payload) ≡ 8 ⌝ }
-    ensures { λ r. ⌜ r ≡ now (payload .entry) ⌝ }
-{
-    let mut address = [0u8; 8];
-    text::put_bytes(payload, &mut address, 0);
-    address
-}
-
 // The words of IDENTIFY, which is handed in as an 8-byte address; whatever the permission table is, it stays.
 fn identify_words(
     phys: &mut [u8],
@@ -244,7 +234,7 @@ fn identify_words(
     if payload.len() != 8 {
         return text::put_byte(b'K', text, at);
     }
-    let address = eight(payload);
+    let address = wire::eight(payload);
     let linked = links::identify(phys, phy, &address);
     match linked {
         Linked::Refused(n) => text::put_count(b'X', n, text, at),

@@ -7,8 +7,7 @@ use Prim.Native.Nat.{ℕ, min, _≤_, _<_}
 use native.Mathlib.Omega.{arith}
 use borrow.Author.Tests.{not-false}
 use lib.Dec.{leb}
-use lib.ListN.{length, take, drop}
-use lib.Seq.{take-all}
+use lib.ListN.{length}
 use Rattle.permit.specs.Permission.{permissionsSized}
 use Rattle.tables.specs.Refusals.{Check, refuse, below, atMost, off, firstRefusal, Clear}
 use Rattle.tables.specs.Outcome.{Answer, refusal, out, outcome}
@@ -98,10 +97,6 @@ module _ (phys permissions set frame : List ℕ) where
         crosses 1 fs a bs _ e (q ∙ clamped (λ (x : ℕ). broadcastOut phys permissions x arrived set frame) broadcast-far p phy ep)
 
 -- ---- IDENTIFY
--- the first eight of eight bytes are all
-pub eight-bytes : (s r : List ℕ) → length s ≡ 8 → r ≡ take 8 (drop 0 s) → r ≡ s
-eight-bytes s r l e = e ∙ take-all 8 s (omega arith)
-
 module _ (phys address : List ℕ) where
   identify-far : (x y : ℕ) → 255 ≤ x → 255 ≤ y → identifyOutC phys x address ≡ identifyOutC phys y address
   identify-far x y hx hy = arrival-far phys true true false x hx _ _ _ _ ∙ sym (arrival-far phys true true false y hy _ _ _ _)

@@ -9,7 +9,6 @@ use wire::PhyNumber;
 ghost use mathlib.Core.Path.{_≡_};
 ghost use mathlib.Core.List.{[], _∷_};
 ghost use Prim.Native.Nat.{min};
-ghost use lib.ListN.{length};
 ghost use Rattle.links.specs.Links.{linkedAs, startUpOut, leavingOut};
 ghost use Rattle.election.specs.Election.{electedAs, electOut};
 ghost use Rattle.opens.specs.Open.{openedAs, openOut};
@@ -179,14 +178,6 @@ pub extern "C" fn shelf_leaving(phys: &mut [u8], phy: u32) -> u32
     linked_c(links::leaving(phys, phy_of(phy)))
 }
 
-// The address as an array, as the library takes it.
-fn eight(address: &[u8]) -> [u8; 8]
-    requires { ⌜ length (now address) ≡ 8 ⌝ }
-    ensures { λ r. ⌜ r ≡ now (address .entry) ⌝ }
-{
-    wire::eight_at(address, 0)
-}
-
 // The library takes eight bytes. Another length is refused as 4, but only after what the header puts before it.
 #[no_mangle]
 pub extern "C" fn shelf_identify(phys: &mut [u8], phy: u32, address: &[u8]) -> u32
@@ -197,7 +188,7 @@ pub extern "C" fn shelf_identify(phys: &mut [u8], phy: u32, address: &[u8]) -> u
         let no = tables::arrival_refusal(phys, p, true, true, NOT_READY);
         return linked_c(Linked::Refused(or_else(no, 4)));
     }
-    let whole = eight(address);
+    let whole = wire::eight(address);
     linked_c(links::identify(phys, p, &whole))
 }
 

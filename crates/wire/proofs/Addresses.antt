@@ -6,7 +6,7 @@ use Prim.Native.Nat.{ℕ, zero, suc, _+_, _*_, _≤_, _<_}
 use native.Mathlib.Nat.{zero-add}
 use native.Mathlib.Omega.{arith}
 use lib.ListN.{length, take, drop, getD, replicate, length-drop}
-use lib.Seq.{ext-getD, length-take-le, getD-take, getD-drop}
+use lib.Seq.{ext-getD, take-all, length-take-le, getD-take, getD-drop}
 use Rattle.wire.specs.Bits.{tab}
 use Rattle.wire.specs.Address.{bigEndian, addressAt}
 use Rattle.wire.proofs.Loops.{length-tab, getD-tab, Filled, fill-end}
@@ -71,6 +71,10 @@ pub eight-end : (s d : List ℕ) (i k : ℕ) → i + 8 ≤ length s → 8 ≤ k 
     → d ≡ take 8 (drop i s)
 eight-end s d i k l h r =
     fill-end (byteFrom s i) 8 (replicate 8 0) d k h r ∙ append-nil (tab (byteFrom s i) 0 8) ∙ tab-taken s i 8 l
+
+-- the first eight of eight bytes are all
+pub eight-bytes : (s r : List ℕ) → length s ≡ 8 → r ≡ take 8 (drop 0 s) → r ≡ s
+eight-bytes s r l e = e ∙ take-all 8 s (omega arith)
 
 -- n bytes that are s's from j on make the same number there
 big-moved : (s t : List ℕ) (n i j high : ℕ) → ((k : ℕ) → k < n → getD t (i + k) 0 ≡ getD s (j + k) 0)

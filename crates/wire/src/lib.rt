@@ -49,7 +49,7 @@ fn four_at(bytes: &[u8], at: usize) -> u64
 
 // The eight bytes from `at` on. Of this loop a compiler makes one load, where eight bytes read one by one stay eight loads
 // as soon as they are used twice.
-pub fn eight_at(bytes: &[u8], at: usize) -> [u8; 8]
+fn eight_at(bytes: &[u8], at: usize) -> [u8; 8]
     requires { ⌜ at + 8 ≤ length (now bytes) ⌝ }
     ensures { λ r. ⌜ r ≡ take 8 (drop at (now (bytes .entry))) ⌝ }
 {
@@ -69,6 +69,14 @@ pub fn address_at(bytes: &[u8], at: usize) -> u64
 {
     let eight = eight_at(bytes, at);
     four_at(&eight, 0) * 4294967296 + four_at(&eight, 4)
+}
+
+// Eight bytes as the array that IDENTIFY is handed.
+pub fn eight(bytes: &[u8]) -> [u8; 8]
+    requires { ⌜ length (now bytes) ≡ 8 ⌝ }
+    ensures { λ r. ⌜ r ≡ now (bytes .entry) ⌝ }
+{
+    eight_at(bytes, 0)
 }
 
 // How many phys the set's first sixteen bytes hold.

@@ -1,9 +1,9 @@
--- `shelf_c::eight` meets its contract.
+-- `wire::eight` meets its contract.
 -- Assumes nothing.
-use Rattle.shelf_c.proofs.CLaws.{eight-bytes}
+use Rattle.wire.proofs.Addresses.{eight-bytes}
 use borrow.Author.Needs.{needs}
-use Rattle.shelf_c.proofs.eight.Statement.{statement}
-use Rattle.shelf_c.proofs.eight.Tie as tie
+use Rattle.wire.proofs.eight.Statement.{statement}
+use Rattle.wire.proofs.eight.Tie as tie
 
 eight-at-requires : tie.Need-eight-at-requires
 eight-at-requires c κs = search needs

@@ -3,13 +3,11 @@
 use mathlib.Core.Path.{_≡_, refl, sym, ap, _∙_}
 use mathlib.Core.Bool.{Bool, true, false, cond, not, _&&_}
 use mathlib.Core.List.{List}
-use Prim.Native.Nat.{ℕ, _+_, _*_, _≤_, _<_}
-use native.Mathlib.Numerals.{add-one}
-use native.Mathlib.Omega.{arith}
+use Prim.Native.Nat.{ℕ, _+_, _*_}
 use borrow.Author.Tests.{eqb-true, not-true, not-false}
 use lib.Dec.{eqb}
-use lib.ListN.{length, getD, set, length-set}
-use lib.Seq.{paste, paste-zero, paste-suc}
+use lib.ListN.{length, set, length-set}
+use lib.Seq.{paste}
 use Rattle.tables.specs.Phys.{phyRecord}
 use Rattle.tables.specs.Refusals.{firstRefusal}
 use Rattle.tables.proofs.RefusalLaws.{clear}
@@ -39,32 +37,6 @@ cleared m v s new old e h p = rw (← e, h) p
 
 pub kept : (m v : Bool) (new old : List ℕ) → m ≡ v → m ≡ false → old ≡ cond v new old
 kept m v new old e h = rw (← e, h)
-
--- ---- the invariant of the loop that stores the eight bytes of s from `at` on: k of them are stored
-pub record Stored (t₀ : List ℕ) (at : ℕ) (s t : List ℕ) (k : ℕ) : Type 0 where
-  pub within : k ≤ 8
-  pub same : length t ≡ length t₀
-  pub stored : t ≡ paste t₀ at s k
-
-pub store-start : (t : List ℕ) (at : ℕ) (s : List ℕ) → Stored t at s t 0
-store-start t at s = record { within = omega arith; same = refl; stored = paste-zero t at s }
-
-pub store-again : (t₀ : List ℕ) (at : ℕ) (s t : List ℕ) (k : ℕ) → at + 8 ≤ length t₀ → 8 ≤ length s → k < 8 → Stored t₀ at s t k
-    → Stored t₀ at s (set t (at + k) (getD s k 0)) (k + 1)
-store-again t₀ at s t k l w h r = record {
-  within = omega arith;
-  same = length-set t (at + k) (getD s k 0) ∙ r .same;
-  stored =
-      ap (λ (x : List ℕ). set x (at + k) (getD s k 0)) (r .stored)
-      ∙ paste-suc t₀ at s k 0 (omega arith) (omega arith)
-      ∙ ap (paste t₀ at s) (sym (add-one k));
-}
-
-pub store-end : (t₀ : List ℕ) (at : ℕ) (s t : List ℕ) (k : ℕ) → 8 ≤ k → Stored t₀ at s t k → t ≡ paste t₀ at s 8
-store-end t₀ at s t k h r =
-    let l = r .within in
-    let e : k ≡ 8 = omega arith in
-    r .stored ∙ ap (paste t₀ at s) e
 
 -- ---- `attach`: the group is settled, then byte 2 is stored, then the address
 pub attached : (phys : List ℕ) (phy : ℕ) (address u t : List ℕ) → u ≡ unzoned phys phy address

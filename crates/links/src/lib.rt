@@ -6,9 +6,7 @@ use tables::WRONG_SIZE;
 use wire::PhyNumber;
 ghost use mathlib.Core.Path.{_≡_};
 ghost use mathlib.Core.List.{[], _∷_};
-ghost use Prim.Native.Nat.{_+_, _<_, _≤_};
-ghost use lib.ListN.{length};
-ghost use lib.Seq.{paste};
+ghost use Prim.Native.Nat.{_<_};
 ghost use Rattle.tables.specs.Phys.{phyCount};
 ghost use Rattle.tables.specs.Refusals.{firstRefusal};
 ghost use Rattle.tables.specs.Outcome.{out};
@@ -101,18 +99,6 @@ fn unzone(phys: &mut [u8], phy: PhyNumber, address: &[u8; 8])
     }
 }
 
-// The eight bytes of an address, from `at` on.
-fn store_address(phys: &mut [u8], at: usize, address: &[u8])
-    requires { ⌜ (at + 8 ≤ length (now phys)) × (8 ≤ length (now address)) ⌝ }
-    ensures { λ _. ⌜ now (phys .exit) ≡ paste (now (phys .entry)) at (now (address .entry)) 8 ⌝ }
-{
-    let mut k: usize = 0;
-    while k < 8 {
-        phys[at + k] = address[k];
-        k += 1;
-    }
-}
-
 // Byte 2 says ready, address known.
 fn attach(phys: &mut [u8], phy: PhyNumber, address: &[u8; 8])
     requires { ⌜ phy .0 < phyCount (now phys) ⌝ }
@@ -121,7 +107,7 @@ fn attach(phys: &mut [u8], phy: PhyNumber, address: &[u8; 8])
     let i = phy.0 as usize;
     unzone(phys, phy, address);
     phys[PHY_RECORD * i + 2] = 3;
-    store_address(phys, PHY_RECORD * i + 4, address);
+    wire::copy(phys, PHY_RECORD * i + 4, address, 0, 8);
 }
 
 // IDENTIFY arrives on a phy, with the attached SAS address.

@@ -11,9 +11,7 @@ use mir.Syntax.{w8}
 use mir.Val.{Fits}
 use lib.Dec.{eqb}
 use lib.ListN.{length, getD, set, drop}
-use lib.Seq.{set-append-left, ext-getD}
-use Rattle.wire.specs.Bits.{tab}
-use Rattle.wire.proofs.Loops.{length-tab, getD-tab, Filled, fill-end}
+use lib.Seq.{paste, take-all, set-append-left}
 use Rattle.permit.specs.Permission.{permissionsSized, P}
 use Rattle.tables.specs.Refusals.{firstRefusal}
 use Rattle.tables.specs.Outcome.{answer, out}
@@ -78,15 +76,10 @@ module _ (phys : List ℕ) (phy : ℕ) (frame : List ℕ) (to : ℕ) (t : Bool) 
       let g : phyPriority phys phy ≤ 0 = omega arith in
       rw (sym et ∙ not-false t h, sym e ∙ k, le-ltb _ _ g, es) (omega arith)
 
--- ---- write_frame
-copied : (frame : List ℕ) → length frame ≡ 28 → tab (λ (i : ℕ). getD frame i 0) 0 28 ≡ frame
-copied frame l =
-    ext-getD 0 (tab (λ (i : ℕ). getD frame i 0) 0 28) frame (length-tab _ 0 28 ∙ sym l)
-    (λ i h. let b : i < 28 = omega (arith, length-tab (λ (i : ℕ). getD frame i 0) 0 28) in getD-tab (λ (i : ℕ). getD frame i 0) 0 28 i b ∙ rw zero-add)
-
-pub write-end : (frame s₀ s : List ℕ) (k x : ℕ) → length frame ≡ 28 → 28 ≤ k → Filled (λ (i : ℕ). getD frame i 0) 28 s₀ s k → set s 20 x ≡ set frame 20 x ++ drop 28 s₀
-write-end frame s₀ s k x l h r =
-    ap (λ (m : List ℕ). set m 20 x) (fill-end (λ (i : ℕ). getD frame i 0) 28 s₀ s k h r ∙ ap (λ (m : List ℕ). m ++ drop 28 s₀) (copied frame l))
+-- ---- write_frame: the frame is copied, then byte 20 is stored
+pub write-end : (frame s₀ s : List ℕ) (x : ℕ) → length frame ≡ 28 → s ≡ paste s₀ 0 (drop 0 frame) 28 → set s 20 x ≡ set frame 20 x ++ drop 28 s₀
+write-end frame s₀ s x l e =
+    ap (λ (m : List ℕ). set m 20 x) (e ∙ ap (λ (m : List ℕ). m ++ drop 28 s₀) (take-all 28 frame (omega arith)))
     ∙ set-append-left frame (drop 28 s₀) 20 x (omega arith)
 
 -- ---- admit

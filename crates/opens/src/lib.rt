@@ -192,11 +192,7 @@ fn write_frame(frame: &[u8], byte: u8, buffer: &mut [u8])
     requires { ⌜ (length (now frame) ≡ 28) × (28 ≤ length (now buffer)) ⌝ }
     ensures { λ _. ⌜ now (buffer .exit) ≡ set (now (frame .entry)) 20 byte ++ drop 28 (now (buffer .entry)) ⌝ }
 {
-    let mut k: usize = 0;
-    while k < 28 {
-        buffer[k] = frame[k];
-        k += 1;
-    }
+    wire::copy(buffer, 0, frame, 0, 28);
     buffer[20] = byte;
 }
 

@@ -20,7 +20,7 @@ use Rattle.permit.specs.Rows.{Masked, RowIs, ColumnIs, ColumnTo, byteHas
 use Rattle.permit.proofs.Laws.{set-masked, P-set, length-setP, Bytes, table-ext}
 use Rattle.permit.proofs.HistoryLaws.{Within, P-apply, length-apply, bytes-apply, latest-swap}
 use Rattle.permit.proofs.BatchLaws.{row-hit, row-past, row-away}
-use Rattle.permit.proofs.Copies.{paste-new, paste-below, paste-above}
+use Rattle.wire.proofs.Copies.{paste-new, paste-below, paste-above}
 
 -- ---- the row and the column together
 within-row : (w : ℕ) (f : ℕ → Bool) (r j n : ℕ) → r < groups w → j + n ≤ groups w → Within w (rowOrders f r j n)

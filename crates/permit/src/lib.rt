@@ -112,18 +112,6 @@ pub fn start_table(permissions: &mut [u8])
     fill(permissions, 16, 32, 255);
 }
 
-// Copies n bytes of `source` from byte `from` on into `target` at byte `at`.
-fn copy(target: &mut [u8], at: usize, source: &[u8], from: usize, n: usize)
-    requires { ⌜ (at + n ≤ length (now target)) × (from + n ≤ length (now source)) ⌝ }
-    ensures { λ _. ⌜ now (target .exit) ≡ paste (now (target .entry)) at (drop from (now (source .entry))) n ⌝ }
-{
-    let mut k: usize = 0;
-    while k < n {
-        target[at + k] = source[from + k];
-        k += 1;
-    }
-}
-
 // A row's last byte holds groups 0 and 1 in its two low bits.
 fn keep_low(new: u8, old: u8) -> u8
     ensures { λ r. ⌜ r ≡ new / 4 * 4 + old % 4 ⌝ }
@@ -138,7 +126,7 @@ fn put_row(permissions: &mut [u8], rows: &[u8], i: usize, r: ZoneGroup)
 {
     let to = (r.0 as usize) * 16;
     let from = i * 16;
-    copy(permissions, to, rows, from, 15);
+    wire::copy(permissions, to, rows, from, 15);
     permissions[to + 15] = keep_low(rows[from + 15], permissions[to + 15]);
 }
 
@@ -210,7 +198,7 @@ pub fn report_rows(permissions: &[u8], start: ZoneGroup, count: u8, response: &m
     requires { ⌜ (length (now permissions) ≡ 2048) × (start .0 + count ≤ 128) × (12 + 16 * count ≤ length (now response)) ⌝ }
     ensures { λ _. ⌜ now (response .exit) ≡ paste (now (response .entry)) 12 (drop (16 * (start .0)) (now (permissions .entry))) (16 * count) ⌝ }
 {
-    copy(
+    wire::copy(
         response,
         12,
         permissions,

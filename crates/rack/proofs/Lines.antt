@@ -1,4 +1,4 @@
--- A text that bytes are put into: one run after another, a loop that copies, and the digits of a number.
+-- A text that bytes are put into: one run after another, bytes copied, and the digits of a number.
 -- Assumes nothing.
 use mathlib.Core.Path.{_≡_, refl, sym, ap, _∙_}
 use mathlib.Core.Bool.{cond}
@@ -11,7 +11,7 @@ use native.Mathlib.Omega.{arith}
 use borrow.Author.Tests.{lt-ltb, le-ltb}
 use lib.Dec.{ltb}
 use lib.ListN.{length, take, drop, getD, set, length-set, length-take, length-drop, length-append, drop-of-length-le}
-use lib.Seq.{sets, sets-eq, length-sets, take-suc, take-all, drop-cons, length-take-le, drop-set-lt, getD-set-same}
+use lib.Seq.{sets, sets-eq, length-sets, paste, take-all, drop-cons, drop-set-lt, getD-set-same}
 use Rattle.rack.specs.Text.{digits, decimal, space, hexDigit, hex, line}
 use Rattle.rack.specs.Words.{S, O, T, replyWords, outcomeWords}
 use Rattle.rack.specs.Inner.{written, Wrote}
@@ -28,37 +28,17 @@ written-append (x ∷ a) b t at =
     let e : suc at + length a ≡ at + suc (length a) = omega arith in
     written-append a b (set t at x) (suc at) ∙ ap (λ (n : ℕ). sets (sets (set t at x) (suc at) a) n b) e
 
--- ---- the loop that copies: the first k bytes are in the text
-pub record Copied (bytes t₀ : List ℕ) (at : ℕ) (t : List ℕ) (k : ℕ) : Type 0 where
-  pub within : k ≤ length bytes
-  pub same : length t ≡ length t₀
-  pub copied : t ≡ written t₀ at (take k bytes)
-
-pub copy-start : (bytes t : List ℕ) (at : ℕ) → Copied bytes t at t 0
+-- ---- bytes copied
+pub copy-done : (bytes t : List ℕ) (at : ℕ) (t₁ : List ℕ) → at + length bytes ≤ length t → t₁ ≡ paste t at (drop 0 bytes) (length bytes)
+    → Wrote t at bytes (at + length bytes) t₁
 unfolding written
-copy-start bytes t at = record { within = omega arith; same = refl; copied = refl }
-
-pub copy-again : (bytes t₀ : List ℕ) (at : ℕ) (t : List ℕ) (k : ℕ) → k < length bytes → Copied bytes t₀ at t k
-    → Copied bytes t₀ at (set t (at + k) (getD bytes k 0)) (k + 1)
-unfolding written
-copy-again bytes t₀ at t k h r = record {
-  within = omega arith;
-  same = length-set t (at + k) (getD bytes k 0) ∙ r .same;
-  copied =
-      ap (λ (l : List ℕ). set l (at + k) (getD bytes k 0)) (r .copied)
-      ∙ ap (λ (n : ℕ). set (sets t₀ at (take k bytes)) (at + n) (getD bytes k 0)) (sym (length-take-le k bytes (omega arith)))
-      ∙ sym (written-append (take k bytes) (getD bytes k 0 ∷ []) t₀ at)
-      ∙ ap (sets t₀ at) (sym (take-suc bytes k 0 h))
-      ∙ ap (λ (n : ℕ). sets t₀ at (take n bytes)) (sym (add-one k));
+copy-done bytes t at t₁ h e = record {
+  ends = refl;
+  wrote =
+      e
+      ∙ ap (λ (l : List ℕ). take at t ++ l ++ drop (at + length bytes) t) (take-all (length bytes) bytes (omega arith))
+      ∙ sym (sets-eq bytes t at h);
 }
-
-pub copy-end : (bytes t₀ : List ℕ) (at : ℕ) (t : List ℕ) (k : ℕ) → length bytes ≤ k → Copied bytes t₀ at t k → Wrote t₀ at bytes (at + k) t
-copy-end bytes t₀ at t k h r =
-    let l = r .within in
-    record {
-      ends = omega arith;
-      wrote = r .copied ∙ ap (written t₀ at) (take-all k bytes h);
-    }
 
 -- ---- the digits of a number, from the lowest
 -- the digits behind `start` are in place, and those of `rest` go before them

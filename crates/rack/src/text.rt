@@ -11,12 +11,9 @@ pub fn put_bytes(bytes: &[u8], text: &mut [u8], at: usize) -> usize
     requires { ⌜ at + length (now bytes) ≤ length (now text) ⌝ }
     ensures { λ r. ⌜ Wrote (now (text .entry)) at (now (bytes .entry)) r (now (text .exit)) ⌝ }
 {
-    let mut k: usize = 0;
-    while k < bytes.len() {
-        text[at + k] = bytes[k];
-        k += 1;
-    }
-    at + k
+    let n = bytes.len();
+    wire::copy(text, at, bytes, 0, n);
+    at + n
 }
 
 pub fn put_byte(byte: u8, text: &mut [u8], at: usize) -> usize

@@ -2,14 +2,12 @@
 -- Assumes nothing.
 use mathlib.Core.Path.{_≡_, refl, sym, ap, _∙_}
 use mathlib.Core.List.{List, append-nil}
-use Prim.Native.Nat.{ℕ, zero, suc, _+_, _*_, _≤_, _<_}
+use Prim.Native.Nat.{ℕ, zero, suc, _+_, _*_, _<_}
 use native.Mathlib.Nat.{zero-add}
 use native.Mathlib.Omega.{arith}
-use lib.ListN.{length, take, drop, getD, replicate, length-drop}
-use lib.Seq.{ext-getD, take-all, length-take-le, getD-take, getD-drop}
-use Rattle.wire.specs.Bits.{tab}
+use lib.ListN.{length, take, drop, getD, replicate}
+use lib.Seq.{paste, take-all, getD-take, getD-drop}
 use Rattle.wire.specs.Address.{bigEndian, addressAt}
-use Rattle.wire.proofs.Loops.{length-tab, getD-tab, Filled, fill-end}
 
 -- the bytes after the first n, behind the number that the first n make
 big-split : (s : List ℕ) (n m i high : ℕ) → bigEndian s (n + m) i high ≡ bigEndian s m (i + n) (bigEndian s n i high)
@@ -52,25 +50,8 @@ unfolding addressAt
 address-made s i a b ea eb = omega (arith, big-split s 4 4 i 0, high-4 s (i + 4) (bigEndian s 4 i 0))
 
 -- ---- eight bytes, copied
-abbrev pub byteFrom : List ℕ → ℕ → ℕ → ℕ
-byteFrom s i k = getD s (i + k) 0
-
-tab-taken : (s : List ℕ) (i n : ℕ) → i + n ≤ length s → tab (byteFrom s i) 0 n ≡ take n (drop i s)
-tab-taken s i n h =
-    let l : length (take n (drop i s)) ≡ n = length-take-le n (drop i s) (omega (arith, length-drop i s)) in
-    ext-getD 0 (tab (byteFrom s i) 0 n) (take n (drop i s)) (length-tab (byteFrom s i) 0 n ∙ sym l) each
-  where
-    each : (k : ℕ) → k < length (tab (byteFrom s i) 0 n) → getD (tab (byteFrom s i) 0 n) k 0 ≡ getD (take n (drop i s)) k 0
-    each k b =
-        let m : k < n = omega (arith, length-tab (byteFrom s i) 0 n) in
-        getD-tab (byteFrom s i) 0 n k m
-        ∙ ap (byteFrom s i) (zero-add k)
-        ∙ sym (getD-take n (drop i s) k 0 m ∙ getD-drop i s k 0)
-
-pub eight-end : (s d : List ℕ) (i k : ℕ) → i + 8 ≤ length s → 8 ≤ k → Filled (byteFrom s i) 8 (replicate 8 0) d k
-    → d ≡ take 8 (drop i s)
-eight-end s d i k l h r =
-    fill-end (byteFrom s i) 8 (replicate 8 0) d k h r ∙ append-nil (tab (byteFrom s i) 0 8) ∙ tab-taken s i 8 l
+pub eight-copied : (s d : List ℕ) (i : ℕ) → d ≡ paste (replicate 8 0) 0 (drop i s) 8 → d ≡ take 8 (drop i s)
+eight-copied s d i e = e ∙ append-nil (take 8 (drop i s))
 
 -- the first eight of eight bytes are all
 pub eight-bytes : (s r : List ℕ) → length s ≡ 8 → r ≡ take 8 (drop 0 s) → r ≡ s

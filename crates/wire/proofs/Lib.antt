@@ -1,4 +1,5 @@
 pub mod BitLaws
 pub mod Loops
+pub mod Copies
 pub mod Addresses
 pub mod Sets

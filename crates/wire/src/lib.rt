@@ -2,6 +2,7 @@
 ghost use mathlib.Core.Path.{_≡_};
 ghost use Prim.Native.Nat.{_+_, _<_, _≤_};
 ghost use lib.ListN.{length, take, drop};
+ghost use lib.Seq.{paste};
 ghost use Rattle.wire.specs.Groups.{groupOf, outsideGroup};
 ghost use Rattle.wire.specs.Address.{bigEndian, addressAt};
 ghost use Rattle.wire.specs.PhySet.{physIn};
@@ -47,18 +48,26 @@ fn four_at(bytes: &[u8], at: usize) -> u64
     two_at(bytes, at) * 65536 + two_at(bytes, at + 2)
 }
 
-// The eight bytes from `at` on. Of this loop a compiler makes one load, where eight bytes read one by one stay eight loads
-// as soon as they are used twice.
+// Copies n bytes of `source` from byte `from` on into `target` at byte `at`.
+pub fn copy(target: &mut [u8], at: usize, source: &[u8], from: usize, n: usize)
+    requires { ⌜ (at + n ≤ length (now target)) × (from + n ≤ length (now source)) ⌝ }
+    ensures { λ _. ⌜ now (target .exit) ≡ paste (now (target .entry)) at (drop from (now (source .entry))) n ⌝ }
+{
+    let mut k: usize = 0;
+    while k < n {
+        target[at + k] = source[from + k];
+        k += 1;
+    }
+}
+
+// The eight bytes from `at` on. Of such a copy a compiler makes one load, where eight bytes read one by one stay eight loads as soon
+// as they are used twice.
 fn eight_at(bytes: &[u8], at: usize) -> [u8; 8]
     requires { ⌜ at + 8 ≤ length (now bytes) ⌝ }
     ensures { λ r. ⌜ r ≡ take 8 (drop at (now (bytes .entry))) ⌝ }
 {
     let mut eight: [u8; 8] = [0; 8];
-    let mut k: usize = 0;
-    while k < 8 {
-        eight[k] = bytes[at + k];
-        k += 1;
-    }
+    copy(&mut eight, 0, bytes, at, 8);
     eight
 }
 

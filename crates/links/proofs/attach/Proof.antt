@@ -22,14 +22,14 @@ add-phys c = search needs
 slice-write-phys : tie.Need-slice-write-phys
 slice-write-phys c = search needs
 
-mul-store-address : tie.Need-mul-store-address
-mul-store-address c = search needs
+mul-copy : tie.Need-mul-copy
+mul-copy c = search needs
 
-add-store-address : tie.Need-add-store-address
-add-store-address c = search needs
+add-copy : tie.Need-add-copy
+add-copy c = search needs
 
-store-address-requires : tie.Need-store-address-requires
-store-address-requires c κs = simp length-set (omega arith)
+copy-requires : tie.Need-copy-requires
+copy-requires c κs = simp length-set (omega arith)
 
 same-length : tie.Need-same-length
 same-length c = search same-stored
@@ -46,8 +46,8 @@ attach-spec =
     mul-phys
     add-phys
     slice-write-phys
-    mul-store-address
-    add-store-address
-    store-address-requires
+    mul-copy
+    add-copy
+    copy-requires
     same-length
     returns)

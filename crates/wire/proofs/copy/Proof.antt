@@ -1,11 +1,11 @@
--- `permit::copy` meets its contract: the first k bytes are copied.
+-- `wire::copy` meets its contract: the first k bytes are copied.
 -- Assumes nothing.
 use Prim.Native.Nat.{_-_}
 use native.Mathlib.Omega.{arith}
 use borrow.Author.Needs.{needs}
-use Rattle.permit.proofs.Copies.{Pasted, copy-start, copy-again, copy-end}
-use Rattle.permit.proofs.copy.Statement.{statement}
-use Rattle.permit.proofs.copy.Tie as tie
+use Rattle.wire.proofs.Copies.{Pasted, copy-start, copy-again, copy-end}
+use Rattle.wire.proofs.copy.Statement.{statement}
+use Rattle.wire.proofs.copy.Tie as tie
 
 abbrev Inv-loop : tie.InvT-loop
 Inv-loop target₀ at source from n k₀ target k = Pasted target₀ at source from n target k

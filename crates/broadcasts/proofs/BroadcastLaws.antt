@@ -3,15 +3,14 @@
 use mathlib.Core.Path.{_≡_, refl, sym, ap, ap₂, _∙_}
 use mathlib.Core.Bool.{Bool, true, false, not, _&&_}
 use mathlib.Core.List.{List, [], _∷_, _++_}
-use Prim.Native.Nat.{ℕ, zero, suc, _+_, _-_, _*_, _/_, _%_, _≤_, _<_}
+use Prim.Native.Nat.{ℕ, zero, suc, _+_, _-_, _%_, _≤_, _<_}
 use native.Mathlib.Nat.{zero-add}
 use native.Mathlib.Decide.{ℕ-discrete}
 use native.Mathlib.Omega.{arith}
 use borrow.Author.Tests.{eqb-true, leb-true, eq-eqb, ne-eqb}
 use lib.Dec.{eqb, leb}
-use lib.ListN.{length, getD, drop, List·getD-eq-default}
-use Rattle.wire.specs.Groups.{outsideGroup}
-use Rattle.wire.specs.PhySet.{member, setOf, tally, physIn}
+use lib.ListN.{length, drop}
+use Rattle.wire.specs.PhySet.{member, tally, physIn}
 use Rattle.wire.proofs.Sets.{member-setOf, length-setOf, count-front, tally-le, tally-add}
 use Rattle.permit.specs.Permission.{permissionsSized, P}
 use Rattle.tables.specs.Refusals.{refuse, below, firstRefusal, Clear}

@@ -1,4 +1,6 @@
 // Start-up, and link events: which group a disk is in after a cable is moved.
+use tables::NO_BUFFERS;
+use tables::NO_OTHER_TABLES;
 use tables::NOT_READY;
 use tables::PHY_RECORD;
 use tables::READY;
@@ -56,7 +58,7 @@ fn leave(phys: &mut [u8], phy: PhyNumber)
 pub fn leaving(phys: &mut [u8], phy: PhyNumber) -> Linked
     ensures { λ r. ⌜ out (linkedAs r) (now (phys .exit) ∷ []) ≡ leavingOut (now (phys .entry)) (phy .0) ⌝ }
 {
-    let no = tables::arrival_refusal(phys, phy, true, true, READY);
+    let no = tables::arrival_refusal(phys, phy, NO_OTHER_TABLES, NO_BUFFERS, READY);
     if no != 0 {
         return Linked::Refused(no);
     }
@@ -68,7 +70,7 @@ pub fn leaving(phys: &mut [u8], phy: PhyNumber) -> Linked
 fn identify_refusal(phys: &[u8], phy: PhyNumber, address: &[u8; 8]) -> u8
     ensures { λ r. ⌜ r ≡ firstRefusal (identifyChecks (now (phys .entry)) (phy .0) (now (address .entry))) ⌝ }
 {
-    let no = tables::arrival_refusal(phys, phy, true, true, NOT_READY);
+    let no = tables::arrival_refusal(phys, phy, NO_OTHER_TABLES, NO_BUFFERS, NOT_READY);
     if no != 0 {
         return no;
     }

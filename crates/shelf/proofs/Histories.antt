@@ -21,7 +21,7 @@ use Rattle.permit.proofs.HistoryLaws.{apply-append, length-apply, valid-append,
 use Rattle.tables.specs.Refusals.{firstRefusal}
 use Rattle.tables.specs.Outcome.{Answer, refusal, answer, Out, out, outcome}
 use Rattle.tables.specs.Phys.{phyGroup}
-use Rattle.links.specs.Links.{startUpChecks, startUpOut}
+use Rattle.links.specs.Links.{startUpOut}
 use Rattle.opens.specs.declared.Opened.{Opened}
 use Rattle.opens.specs.declared.Opened.the-variants.{Refused, NoDestination, BadDestination, ZoneViolation, Forward}
 use Rattle.opens.specs.declared.Found.the-variants.{At}
@@ -30,7 +30,7 @@ use Rattle.opens.specs.Open.{valuesOf, openSource, opened, openOut}
 use Rattle.opens.proofs.OpenLaws as opens
 use Rattle.broadcasts.specs.Broadcasts.{toldSet, frameSource, primitiveOut, broadcastOut}
 use Rattle.broadcasts.proofs.BroadcastLaws as broadcasts
-use Rattle.smp.specs.Smp.{roomFor, smpChecks, smpReply, smpOut, acceptedOrders}
+use Rattle.smp.specs.Smp.{roomFor, smpChecks, smpOut, acceptedOrders}
 use Rattle.smp.proofs.SmpLaws.{permissionsAfter, orders-applied, orders-valid}
 use Rattle.shelf.specs.Calls.{Call, startUp, leaving, identify, elect, opening, primitive, broadcastFrame, smp, outcomeOf, answerOf, bufferOf, after, accepted, kept, run, orders}
 use Rattle.shelf.specs.Promises.{History, NoOpen, NoBroadcast}

@@ -4,6 +4,8 @@ use election::Elected;
 use links::Linked;
 use opens::Opened;
 use smp::Answered;
+use tables::NO_BUFFERS;
+use tables::NO_OTHER_TABLES;
 use tables::NOT_READY;
 use wire::PhyNumber;
 ghost use mathlib.Core.Path.{_≡_};
@@ -185,7 +187,7 @@ pub extern "C" fn shelf_identify(phys: &mut [u8], phy: u32, address: &[u8]) -> u
 {
     let p = phy_of(phy);
     if address.len() != 8 {
-        let no = tables::arrival_refusal(phys, p, true, true, NOT_READY);
+        let no = tables::arrival_refusal(phys, p, NO_OTHER_TABLES, NO_BUFFERS, NOT_READY);
         return linked_c(Linked::Refused(or_else(no, 4)));
     }
     let whole = wire::eight(address);

@@ -3,7 +3,7 @@
 use mathlib.Core.Path.{_≡_, refl, sym, ap, ap₂, _∙_, subst}
 use mathlib.Core.Bool.{Bool, true, false, cond, _&&_}
 use mathlib.Core.List.{List, [], _∷_, _++_}
-use Prim.Native.Nat.{ℕ, zero, suc, _+_, _*_, _/_, _%_, _≤_, _<_}
+use Prim.Native.Nat.{ℕ, zero, suc, _+_, _/_, _%_, _≤_}
 use native.Mathlib.Decide.{ℕ-discrete}
 use native.Mathlib.Omega.{arith}
 use borrow.Author.Tests.{eqb-true, leb-true, eq-eqb, ne-eqb}
@@ -21,7 +21,7 @@ use Rattle.tables.specs.Arrival.{arrivalChecks}
 use Rattle.tables.proofs.ArrivalLaws.{both, arrived, arrival-clear}
 use Rattle.tables.proofs.OutcomeLaws.{gives}
 use Rattle.requests.specs.Requests.{Reply, turnedDown, replied, Lent, Leaves, responseOf}
-use Rattle.phy_zone.specs.PhyZone.{phyZoneChecks, phyZoneReply}
+use Rattle.phy_zone.specs.PhyZone.{phyZoneReply}
 use Rattle.zone_permission.specs.ZonePermission.{permissionChecks, permissionSet, permissionReply, ordersOf}
 use Rattle.zone_permission.proofs.PermissionLaws.{accepted, valid-orders}
 use Rattle.zone_report.specs.ZoneReport.{reportReply}

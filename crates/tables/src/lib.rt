@@ -25,6 +25,11 @@ const NO_ROOM: u8 = 3;
 
 const WRONG_STATE: u8 = 7;
 
+// What a call says of its other tables and of its room where it uses no other table, and where it writes no buffer.
+pub const NO_OTHER_TABLES: bool = true;
+
+pub const NO_BUFFERS: bool = true;
+
 // What a call awaits of the arriving phy: IDENTIFY is for one that is not ready, every other call for one that is.
 pub const READY: bool = true;
 

@@ -14,6 +14,7 @@ use Rattle.wire.specs.declared.ZoneGroup.{ZoneGroup}
 use Rattle.wire.proofs.Loops.{left}
 use Rattle.tables.specs.Phys.{phyRecord, phyCount, phyGroup, ready}
 use Rattle.tables.specs.Routes.{routeRecord, routeCount, routePhy, routeGroup}
+use Rattle.tables.proofs.ArrivalLaws.{both}
 use Rattle.opens.specs.declared.Found.{Found}
 use Rattle.opens.specs.declared.Found.the-variants.{At, Nothing}
 use Rattle.opens.specs.Search.{sameBytes, zeroBytes, found, findPhy, usable, findRoute, orElse, search}
@@ -186,13 +187,6 @@ module _ (phys : List ℕ) where
   names-else : (x y : Found) → Names phys x → Names phys y → Names phys (orElse x y)
   names-else (At p g) y h l = h
   names-else Nothing y h l = l
-
-  both : (a b : Bool) → (a && b) ≡ true → (a ≡ true) × (b ≡ true)
-  both true b e = (refl, e)
-  both false b e = absurd (never e)
-    where
-      never : false ≡ true → ⊥
-      never e = let z : _≡_ {A = ℕ} 0 1 = cc in omega arith
 
   names-phy : (frame : List ℕ) (i n : ℕ) → i + n ≤ phyCount phys → Names phys (findPhy phys frame i n)
   unfolding findPhy

@@ -75,9 +75,6 @@ module _ (phys : List ℕ) (phy : ℕ) (sizes room awaited : Bool) where
     shared : r ≡ firstRefusal (arrivalChecks phys phy sizes room awaited)
     shared = e ∙ ap (λ (x : Bool). firstRefusal (arrivalChecks phys phy x room awaited)) es
 
-    pub arrival-sized : r ≡ 0 → sizes ≡ true
-    arrival-sized z = arrived r shared z .sized
-
     pub arrival-front : (own : List Check) → (r ≡ 0 → ⊥) → r ≡ firstRefusal (arrivalChecks phys phy sizes room awaited ++ own)
     arrival-front own h = front _ own r shared h
 

@@ -14,7 +14,7 @@ use Rattle.tables.specs.Arrival.{unlike, arrivalChecks}
 use Rattle.tables.proofs.RefusalLaws.{Holds, Numbered, clear, front, back, apart}
 
 -- ---- row 7, as the code asks it: x is whether the phy is ready, held against what the call awaits
-never : {A : Type 0} → false ≡ true → A
+pub never : {A : Type 0} → false ≡ true → A
 never e = let z : _≡_ {A = ℕ} 0 1 = cc in absurd (omega arith)
 
 pub unlike-holds : (x a v : Bool) → x ≡ v → not (Bool·beq x a) ≡ true → Holds (unlike a v)

@@ -2,3 +2,4 @@ pub mod RefusalLaws
 pub mod OutcomeLaws
 pub mod PhyLaws
 pub mod ArrivalLaws
+pub mod PortLaws

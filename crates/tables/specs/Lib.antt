@@ -3,3 +3,4 @@ pub mod Outcome
 pub mod Phys
 pub mod Routes
 pub mod Arrival
+pub mod Ports

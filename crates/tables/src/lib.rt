@@ -7,6 +7,7 @@ ghost use Prim.Native.Nat.{_+_, _*_, _%_, _<_, _≤_};
 ghost use lib.ListN.{length, drop};
 ghost use Rattle.wire.specs.PhySet.{setByte};
 ghost use Rattle.tables.specs.Phys.{phyCount, participating, phyPriority, phyGroup, phyAddress, ready, known, readySet, emptySet, zoned, physSized};
+ghost use Rattle.tables.specs.Ports.{samePort};
 ghost use Rattle.tables.specs.Routes.{routeCount, routeAddress, routePhy, routeGroup, routePriority, routesSized};
 ghost use Rattle.tables.specs.Refusals.{firstRefusal};
 ghost use Rattle.tables.specs.Arrival.{arrivalChecks};
@@ -81,6 +82,19 @@ pub fn phy_address(phys: &[u8], phy: PhyNumber) -> u64
 {
     let i = phy.0 as usize;
     wire::address_at(phys, PHY_RECORD * i + 4)
+}
+
+// Whether two phys are in one port. A phy is in its own port even where it has no address, or is not ready.
+pub fn same_port(phys: &[u8], phy: PhyNumber, other: PhyNumber) -> bool
+    requires { ⌜ (phy .0 < phyCount (now phys)) × (other .0 < phyCount (now phys)) ⌝ }
+    ensures { λ r. ⌜ r ≡ samePort (now (phys .entry)) (phy .0) (other .0) ⌝ }
+{
+    if phy.0 == other.0 {
+        return true;
+    }
+    let ready = is_ready(phys, phy) & is_ready(phys, other);
+    let address = phy_address(phys, phy);
+    ready & (address != 0) & (address == phy_address(phys, other))
 }
 
 // Bytes 0 and 1 of a record, reserved bits zero.

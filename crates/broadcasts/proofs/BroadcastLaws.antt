@@ -1,26 +1,28 @@
--- Broadcasts: which phys are told, case by case and bit by bit of the set; the frame; what is known where nothing is refused.
+-- Broadcasts: what is known where nothing is refused; the count; the frame; the calls' ends.
 -- Assumes nothing.
 use mathlib.Core.Path.{_≡_, refl, sym, ap, ap₂, _∙_}
-use mathlib.Core.Bool.{Bool, true, false, not, _&&_}
+use mathlib.Core.Bool.{Bool, true, false}
 use mathlib.Core.List.{List, [], _∷_, _++_}
-use Prim.Native.Nat.{ℕ, zero, suc, _+_, _-_, _%_, _≤_, _<_}
+use Prim.Native.Nat.{ℕ, zero, suc, _+_, _-_, _*_, _%_, _≤_, _<_}
 use native.Mathlib.Nat.{zero-add}
 use native.Mathlib.Decide.{ℕ-discrete}
 use native.Mathlib.Omega.{arith}
 use borrow.Author.Tests.{eqb-true, leb-true, eq-eqb, ne-eqb}
-use lib.Dec.{eqb, leb}
-use lib.ListN.{length, drop}
-use Rattle.wire.specs.PhySet.{member, tally, physIn}
-use Rattle.wire.proofs.Sets.{member-setOf, length-setOf, count-front, tally-le, tally-add}
-use Rattle.permit.specs.Permission.{permissionsSized, P}
+use lib.Dec.{leb}
+use lib.ListN.{length, set, drop}
+use Rattle.wire.specs.Bits.{tab}
+use Rattle.wire.specs.PhySet.{tally, physIn}
+use Rattle.wire.proofs.Loops.{Filled, fill-end}
+use Rattle.wire.proofs.Sets.{member-setOf, count-front, tally-le, tally-add}
+use Rattle.permit.specs.Permission.{permissionsSized}
 use Rattle.tables.specs.Refusals.{refuse, below, firstRefusal, Clear}
-use Rattle.tables.specs.Phys.{phyCount, phyGroup, ready}
+use Rattle.tables.specs.Phys.{phyCount}
 use Rattle.tables.proofs.ArrivalLaws.{both, Arrived, arrival-clear}
 use Rattle.tables.specs.Outcome.{answer, out}
 use Rattle.tables.proofs.OutcomeLaws.{gives}
-use Rattle.tables.proofs.PhyLaws.{ready-out}
 use Rattle.broadcasts.specs.Inner.{Lent, Announced}
-use Rattle.broadcasts.specs.Broadcasts.{told, toldSet, frameOf, announced, roomFor, primitiveChecks, frameChecks, typeOf, typedLength}
+use Rattle.broadcasts.proofs.ToldLaws.{told-out, told-self, length-told}
+use Rattle.broadcasts.specs.Broadcasts.{toldSet, frameByte, frameOf, announced, roomFor, primitiveChecks, frameChecks, typeOf, typedLength}
 
 -- ---- a frame that is not refused has a type, and so four bytes at least
 pub typed-long : (arrived : List ℕ) → length arrived ≡ typedLength arrived → 2 ≤ typeOf arrived → typeOf arrived ≤ 3 → 4 ≤ length arrived
@@ -35,19 +37,17 @@ typed-long arrived e l h = go (ℕ-discrete (typeOf arrived) 2)
 
 -- ---- where nothing is refused: r is the number that the checks answered
 module _ (phys permissions : List ℕ) (phy : ℕ) (set frame : List ℕ) (r : ℕ) (z : r ≡ 0) where
-  lent : Arrived phys phy (permissionsSized 16 permissions) (roomFor set frame) → Lent phys permissions phy set frame
+  lent : Arrived phys phy (permissionsSized 16 permissions) (roomFor set frame) true → Lent phys permissions phy set frame
   lent a =
       let room = both (leb 16 (length set)) (leb 28 (length frame)) (a .roomy) in
       record {
-        records = a .records;
-        whole = eqb-true _ _ (a .sized);
-        there = a .there;
+        shelf = record { records = a .records; most = a .most; whole = eqb-true _ _ (a .sized); there = a .there; up = a .state };
         setRoom = leb-true _ _ (room .0);
         frameRoom = leb-true _ _ (room .1);
       }
 
   module _ (number : ℕ) (e : r ≡ firstRefusal (primitiveChecks phys permissions phy number (roomFor set frame))) where
-    primitive-clear : Arrived phys phy (permissionsSized 16 permissions) (roomFor set frame) × Clear (refuse 5 (below 7 number) ∷ [])
+    primitive-clear : Arrived phys phy (permissionsSized 16 permissions) (roomFor set frame) true × Clear (refuse 5 (below 7 number) ∷ [])
     primitive-clear = arrival-clear phys phy (permissionsSized 16 permissions) (roomFor set frame) true _ r e z tt
 
     pub primitive-lent : Lent phys permissions phy set frame
@@ -57,7 +57,7 @@ module _ (phys permissions : List ℕ) (phy : ℕ) (set frame : List ℕ) (r : �
     primitive-small = let k = primitive-clear .1 in omega arith
 
   module _ (arrived : List ℕ) (e : r ≡ firstRefusal (frameChecks phys permissions phy arrived (roomFor set frame))) where
-    frame-clear : Arrived phys phy (permissionsSized 16 permissions) (roomFor set frame) × (4 ≤ length arrived)
+    frame-clear : Arrived phys phy (permissionsSized 16 permissions) (roomFor set frame) true × (4 ≤ length arrived)
     frame-clear =
         let k = arrival-clear phys phy (permissionsSized 16 permissions) (roomFor set frame) true _ r e z tt in
         (k .0, typed-long arrived (k .1 .1 .0) (k .1 .1 .1 .0) (k .1 .1 .1 .1 .0))
@@ -67,46 +67,6 @@ module _ (phys permissions : List ℕ) (phy : ℕ) (set frame : List ℕ) (r : �
 
     pub frame-long : 4 ≤ length arrived
     frame-long = frame-clear .1
-
--- ---- whether phy i is told
-module _ (phys permissions : List ℕ) (phy source i : ℕ) where
-  pub told-out : length phys % 12 ≡ 0 → phyCount phys ≤ i → false ≡ told phys permissions phy source i
-  unfolding told
-  told-out w h = rw (← ready-out phys i w h)
-
-  told-self : i ≡ phy → false ≡ told phys permissions phy source i
-  unfolding told
-  told-self e = rw (eq-eqb _ _ e) (go (ready phys i))
-    where
-      go : (b : Bool) → false ≡ (b && false)
-      go true = refl
-      go false = refl
-
-  pub told-all : (g : ℕ) (x : Bool) → g ≡ phyGroup phys i → x ≡ P 16 permissions source g → ((ready phys i && not (eqb i phy)) && x) ≡ told phys permissions phy source i
-  unfolding told
-  told-all g x eg e = rw (e, eg) (regroup (ready phys i) (not (eqb i phy)) (P 16 permissions source (phyGroup phys i)))
-    where
-      regroup : (a b c : Bool) → ((a && b) && c) ≡ (a && (b && c))
-      regroup true b c = refl
-      regroup false b c = refl
-
-  -- "It holds every ready phy, except the arriving one, with P(source group, its group) on": in the set exactly if so
-  pub in-set : i < 128 → member (toldSet phys permissions phy source) i ≡ (ready phys i && (not (eqb i phy) && P 16 permissions source (phyGroup phys i)))
-  unfolding toldSet told
-  in-set h = member-setOf (λ (k : ℕ). ready phys k && (not (eqb k phy) && P 16 permissions source (phyGroup phys k))) i h
-
-  -- a phy whose group the source may not reach is in no set
-  pub barred : i < 128 → P 16 permissions source (phyGroup phys i) ≡ false → member (toldSet phys permissions phy source) i ≡ false
-  barred h p = in-set h ∙ rw p (go (ready phys i) (not (eqb i phy)))
-    where
-      go : (b d : Bool) → (b && (d && false)) ≡ false
-      go true true = refl
-      go true false = refl
-      go false d = refl
-
-pub length-told : (phys permissions : List ℕ) (phy source : ℕ) → length (toldSet phys permissions phy source) ≡ 16
-unfolding toldSet
-length-told phys permissions phy source = length-setOf _
 
 -- ---- the count
 -- no phy from n on, and not p, is counted
@@ -138,8 +98,14 @@ pub count-most : (phys permissions : List ℕ) (phy source : ℕ) → length phy
 unfolding physIn toldSet
 count-most phys permissions phy source w m h =
     tally-most _ phy (phyCount phys) 128 h m
-    (member-setOf _ phy (omega arith) ∙ sym (told-self phys permissions phy source phy refl))
+    (member-setOf _ phy (omega arith) ∙ told-self phys permissions phy source)
     (λ k l u. member-setOf _ k u ∙ sym (told-out phys permissions phy source k w l))
+
+-- ---- the frame: zeros, and then two bytes
+pub frame-made : (number source : ℕ) (s₀ s : List ℕ) (k : ℕ) → 28 ≤ k → Filled (λ (i : ℕ). 0) 28 s₀ s k
+    → set (set s 0 (number * 16 + 2)) 3 source ≡ frameOf number source ++ drop 28 s₀
+unfolding frameOf frameByte tab
+frame-made number source s₀ s k h r = ap (λ (l : List ℕ). set (set l 0 (number * 16 + 2)) 3 source) (fill-end (λ (i : ℕ). 0) 28 s₀ s k h r)
 
 -- ---- the calls' ends
 module _ (phys permissions : List ℕ) (phy source number : ℕ) (set frame : List ℕ) where

@@ -1,2 +1,4 @@
+pub mod ToldLaws
+pub mod Chains
 pub mod BroadcastLaws
 pub mod Unique

@@ -6,11 +6,12 @@ use lib.Dec.{eqb, leb}
 use lib.ListN.{length, getD, drop}
 use Rattle.wire.specs.Bits.{tab}
 use Rattle.wire.specs.Groups.{outsideGroup}
-use Rattle.wire.specs.PhySet.{setOf, physIn}
+use Rattle.wire.specs.PhySet.{some, setOf, physIn}
 use Rattle.permit.specs.Permission.{permissionsSized, P}
 use Rattle.tables.specs.Refusals.{Check, refuse, below, same, differ, off, firstRefusal}
 use Rattle.tables.specs.Outcome.{Answer, refusal, answer, Out, outcome}
 use Rattle.tables.specs.Phys.{phyGroup, participating, ready}
+use Rattle.tables.specs.Ports.{samePort}
 use Rattle.tables.specs.Arrival.{arrivalChecks}
 use Rattle.broadcasts.specs.declared.Told.{Told}
 use Rattle.broadcasts.specs.declared.Told.the-variants.{Refused, Count}
@@ -20,10 +21,18 @@ abbrev pub toldAs : Told → Answer
 toldAs (Refused n) = refusal n
 toldAs (Count n) = answer (n ∷ [])
 
--- "It holds every ready phy, except the arriving one, with P(source group, its group) on."
+-- a permitted phy: "ready .., with P(source group, its group) on"
+unfoldable pub permitted : List ℕ → List ℕ → ℕ → ℕ → Bool
+permitted phys permissions source i = ready phys i && P 16 permissions source (phyGroup phys i)
+
+-- phy j is a permitted phy of phy i's port
+unfoldable pub sister : List ℕ → List ℕ → ℕ → ℕ → ℕ → Bool
+sister phys permissions source i j = permitted phys permissions source j && samePort phys i j
+
+-- "A set for an incoming broadcast leaves out that port" (the arriving phy's) "and names only the lowest permitted phy of each other port."
 unfoldable pub told : List ℕ → List ℕ → ℕ → ℕ → ℕ → Bool
 told phys permissions phy source i =
-    ready phys i && (not (eqb i phy) && P 16 permissions source (phyGroup phys i))
+    permitted phys permissions source i && (not (samePort phys phy i) && not (some (sister phys permissions source i) i))
 
 unfoldable pub toldSet : List ℕ → List ℕ → ℕ → ℕ → List ℕ
 toldSet phys permissions phy source = setOf (told phys permissions phy source)

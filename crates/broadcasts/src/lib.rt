@@ -4,14 +4,13 @@ use wire::PhyNumber;
 use wire::ZoneGroup;
 ghost use mathlib.Core.Path.{_≡_};
 ghost use mathlib.Core.List.{[], _∷_, _++_};
-ghost use Prim.Native.Nat.{_%_, _<_, _≤_};
+ghost use Prim.Native.Nat.{_+_, _*_, min, _<_, _≤_};
 ghost use lib.ListN.{length, drop};
-ghost use Rattle.wire.specs.PhySet.{setByte};
 ghost use Rattle.tables.specs.Refusals.{firstRefusal};
 ghost use Rattle.tables.specs.Outcome.{out};
-ghost use Rattle.tables.specs.Phys.{phyGroup};
-ghost use Rattle.broadcasts.specs.Broadcasts.{toldAs, told, toldSet, frameOf, frameByte, primitiveChecks, primitiveOut, typedLength, frameChecks, frameSource, frameNumber, broadcastOut};
-ghost use Rattle.broadcasts.specs.Inner.{Shelf, Lent, Announced};
+ghost use Rattle.tables.specs.Phys.{phyCount, phyGroup, phyAddress};
+ghost use Rattle.broadcasts.specs.Broadcasts.{toldAs, permitted, toldSet, frameOf, primitiveChecks, primitiveOut, typedLength, frameChecks, frameSource, frameNumber, broadcastOut};
+ghost use Rattle.broadcasts.specs.Inner.{Shelf, Lent, slotOf, Chain, Met, Kept, Judged, ByteTold, Announced};
 
 pub enum Told {
     Refused(u8),
@@ -73,33 +72,118 @@ fn frame_refusal(phys: &[u8], permissions: &[u8], phy: PhyNumber, arrived: &[u8]
     0
 }
 
-// Whether phy i is told: it is ready, is not the arriving one, and the source may reach its group. All three are asked of every phy,
-// so that the time does not hang on who is told.
-fn is_told(phys: &[u8], permissions: &[u8], phy: PhyNumber, source: ZoneGroup, i: usize) -> bool
-    requires { ⌜ Shelf (now phys) (now permissions) (source .0) ⌝ }
-    ensures { λ r. ⌜ r ≡ told (now (phys .entry)) (now (permissions .entry)) (phy .0) (source .0) i ⌝ }
+// Whether the source may reach phy i's group, and it is ready. Most phys are, so that is asked last.
+fn is_permitted(phys: &[u8], permissions: &[u8], source: ZoneGroup, i: usize) -> bool
+    requires { ⌜ (length (now permissions) ≡ 2048) × (source .0 < 128) × (i < phyCount (now phys)) ⌝ }
+    ensures { λ r. ⌜ r ≡ permitted (now (phys .entry)) (now (permissions .entry)) (source .0) i ⌝ }
 {
-    if phys.len() / tables::PHY_RECORD <= i {
+    let group = wire::group_of(phys[tables::PHY_RECORD * i + 1]);
+    if !permit::permitted(permissions, source, group) {
         return false;
     }
-    let ready = phys[tables::PHY_RECORD * i + 2] % 2 == 1;
-    let other = i != phy.0 as usize;
-    let group = wire::group_of(phys[tables::PHY_RECORD * i + 1]);
-    ready & other & permit::permitted(permissions, source, group)
+    phys[tables::PHY_RECORD * i + 2] % 2 == 1
 }
 
-// Byte k of the set, from its highest bit down.
-fn told_byte(phys: &[u8], permissions: &[u8], phy: PhyNumber, source: ZoneGroup, k: usize) -> u8
-    requires { ⌜ Shelf (now phys) (now permissions) (source .0) × (k < 16) ⌝ }
-    ensures { λ r. ⌜ r ≡ setByte (told (now (phys .entry)) (now (permissions .entry)) (phy .0) (source .0)) k ⌝ }
+// The slot that an address goes to: its lower half, which tells one maker's addresses apart, spread by a multiplication.
+fn slot_of(address: u64) -> usize
+    ensures { λ r. ⌜ (r ≡ slotOf address) × (r < 256) ⌝ }
 {
-    let mut byte: u8 = 0;
-    let mut j: usize = 8;
-    while 0 < j {
-        j -= 1;
-        byte = byte * 2 + is_told(phys, permissions, phy, source, 8 * k + j) as u8;
+    (address % 4294967296 * 2654435761 / 16777216 % 256) as usize
+}
+
+fn wide(b: u8) -> usize
+    ensures { λ r. ⌜ r ≡ b ⌝ }
+{
+    b as usize
+}
+
+// Whether a phy of the chain has this address. `from` and each element of `next` are one more than a phy's number, or 0 at the end;
+// phy i's element is at i + 1.
+fn met(phys: &[u8], next: &[u8; 129], address: u64, from: usize) -> bool
+    requires { ⌜ Chain (now phys) (now next) from ⌝ }
+    ensures { λ r. ⌜ Met (now (phys .entry)) (now (next .entry)) address from r ⌝ }
+{
+    let mut k = from;
+    while 0 < k {
+        if wire::address_at(phys, tables::PHY_RECORD * (k - 1) + 4) == address {
+            return true;
+        }
+        k = wide(next[k]);
     }
-    byte
+    false
+}
+
+// Whether phy i is told. Without an address it is a port by itself; `own` is the arriving phy's address. Of the permitted phys of other
+// ports below it, those whose address goes to one slot are a chain: the slot holds one more than the last of them, `next` for each one
+// more than the one before it, 0 ends it. So phy i is compared with few of them. It becomes the last of its slot.
+fn is_told(
+    phys: &[u8],
+    permissions: &[u8],
+    phy: PhyNumber,
+    own: u64,
+    source: ZoneGroup,
+    i: usize,
+    slots: &mut [u8; 256],
+    next: &mut [u8; 129],
+) -> bool
+    requires { ⌜ Shelf (now phys) (now permissions) (phy .0) × (source .0 < 128) × (own ≡ phyAddress (now phys) (phy .0)) × (i < phyCount (now phys)) × Kept (now phys) (now permissions) (phy .0) (source .0) i (now slots) (now next) ⌝ }
+    ensures { λ r. ⌜ Judged (now (phys .entry)) (now (permissions .entry)) (phy .0) (source .0) i (now (slots .exit)) (now (next .exit)) r ⌝ }
+{
+    if !is_permitted(phys, permissions, source, i) {
+        return false;
+    }
+    let address = wire::address_at(phys, tables::PHY_RECORD * i + 4);
+    if address == 0 {
+        return i != phy.0 as usize;
+    }
+    if address == own {
+        return false;
+    }
+    let slot = slot_of(address);
+    let last = slots[slot];
+    next[i + 1] = last;
+    slots[slot] = i as u8 + 1;
+    !met(phys, next, address, wide(last))
+}
+
+// Where byte k of the set ends: with its eight phys, or with the last that there is.
+fn byte_end(k: usize, count: usize) -> usize
+    requires { ⌜ 8 * k < 128 ⌝ }
+    ensures { λ r. ⌜ r ≡ min (8 * k + 8) count ⌝ }
+{
+    if 8 * k + 8 <= count {
+        return 8 * k + 8;
+    }
+    count
+}
+
+// Byte k of the set, upwards, since a phy is held against the lower ones.
+fn told_byte(
+    phys: &[u8],
+    permissions: &[u8],
+    phy: PhyNumber,
+    own: u64,
+    source: ZoneGroup,
+    k: usize,
+    slots: &mut [u8; 256],
+    next: &mut [u8; 129],
+) -> u8
+    requires { ⌜ Shelf (now phys) (now permissions) (phy .0) × (source .0 < 128) × (own ≡ phyAddress (now phys) (phy .0)) × (8 * k < phyCount (now phys)) × Kept (now phys) (now permissions) (phy .0) (source .0) (8 * k) (now slots) (now next) ⌝ }
+    ensures { λ r. ⌜ ByteTold (now (phys .entry)) (now (permissions .entry)) (phy .0) (source .0) k (now (slots .exit)) (now (next .exit)) r ⌝ }
+{
+    let end = byte_end(k, phys.len() / tables::PHY_RECORD);
+    let mut byte: u16 = 0;
+    let mut bit: u16 = 1;
+    let mut i = 8 * k;
+    while i < end {
+        let told = is_told(phys, permissions, phy, own, source, i, slots, next);
+        if told {
+            byte += bit;
+        }
+        bit += bit;
+        i += 1;
+    }
+    byte as u8
 }
 
 fn write_told_set(
@@ -109,27 +193,28 @@ fn write_told_set(
     source: ZoneGroup,
     set: &mut [u8],
 )
-    requires { ⌜ Shelf (now phys) (now permissions) (source .0) × (16 ≤ length (now set)) ⌝ }
+    requires { ⌜ Shelf (now phys) (now permissions) (phy .0) × (source .0 < 128) × (16 ≤ length (now set)) ⌝ }
     ensures { λ _. ⌜ now (set .exit) ≡ toldSet (now (phys .entry)) (now (permissions .entry)) (phy .0) (source .0) ++ drop 16 (now (set .entry)) ⌝ }
 {
+    let own = tables::phy_address(phys, phy);
+    let count = phys.len() / tables::PHY_RECORD;
+    tables::write_empty_set(set);
+    let mut slots: [u8; 256] = [0; 256];
+    let mut next: [u8; 129] = [0; 129];
     let mut k: usize = 0;
-    while k < 16 {
-        set[k] = told_byte(phys, permissions, phy, source, k);
+    while 8 * k < count {
+        set[k] = told_byte(
+            phys,
+            permissions,
+            phy,
+            own,
+            source,
+            k,
+            &mut slots,
+            &mut next,
+        );
         k += 1;
     }
-}
-
-fn frame_byte(number: u8, source: ZoneGroup, k: usize) -> u8
-    requires { ⌜ number < 8 ⌝ }
-    ensures { λ r. ⌜ r ≡ frameByte number (source .0) k ⌝ }
-{
-    if k == 0 {
-        return number * 16 + 2;
-    }
-    if k == 3 {
-        return source.0;
-    }
-    0
 }
 
 // The type 2h frame, written whole.
@@ -139,9 +224,11 @@ fn write_frame(number: u8, source: ZoneGroup, frame: &mut [u8])
 {
     let mut k: usize = 0;
     while k < 28 {
-        frame[k] = frame_byte(number, source, k);
+        frame[k] = 0;
         k += 1;
     }
+    frame[0] = number * 16 + 2;
+    frame[3] = source.0;
 }
 
 // What both calls do where nothing is refused.
@@ -154,7 +241,7 @@ fn announce(
     set: &mut [u8],
     frame: &mut [u8],
 ) -> u8
-    requires { ⌜ Shelf (now phys) (now permissions) (source .0) × (number < 8) × (16 ≤ length (now set)) × (28 ≤ length (now frame)) ⌝ }
+    requires { ⌜ Lent (now phys) (now permissions) (phy .0) (now set) (now frame) × (source .0 < 128) × (number < 8) ⌝ }
     ensures { λ r. ⌜ Announced (now (phys .entry)) (now (permissions .entry)) (phy .0) (source .0) number (now (set .entry)) (now (frame .entry)) r (now (set .exit)) (now (frame .exit)) ⌝ }
 {
     write_told_set(phys, permissions, phy, source, set);

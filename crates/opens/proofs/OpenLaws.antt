@@ -1,17 +1,16 @@
 -- What an OPEN frame may reach: it is forwarded only where the permission is on.
 -- Assumes nothing.
-use mathlib.Core.Path.{_≡_, refl, ap, _∙_}
+use mathlib.Core.Path.{_≡_, refl, sym, ap, _∙_}
 use mathlib.Core.Bool.{Bool, true, false, cond}
 use mathlib.Core.List.{List}
 use Prim.Native.Nat.{ℕ, _%_, _<_}
 use native.Mathlib.Omega.{arith}
-use borrow.Author.Tests.{eqb-false}
-use lib.Dec.{eqb}
 use lib.ListN.{getD}
 use Rattle.wire.specs.declared.PhyNumber.{PhyNumber}
 use Rattle.wire.specs.declared.ZoneGroup.{ZoneGroup}
 use Rattle.permit.specs.Permission.{P}
 use Rattle.tables.specs.Phys.{phyGroup, participating}
+use Rattle.tables.specs.Ports.{samePort}
 use Rattle.opens.specs.declared.Found.{Found}
 use Rattle.opens.specs.declared.Found.the-variants.{At, Nothing}
 use Rattle.opens.specs.declared.Opened.the-variants.{BadDestination, ZoneViolation, Forward}
@@ -32,25 +31,25 @@ module _ (phys permissions : List ℕ) (phy : ℕ) (frame : List ℕ) (p : PhyNu
   -- it went out on p by the finding f
   abbrev Reached : Found → Type 0
   Reached f =
-      (g : ZoneGroup) × (f ≡ At p g) × (P 16 permissions (openSource phys phy frame) (g .0) ≡ true) × (p .0 ≡ phy → ⊥)
+      (g : ZoneGroup) × (f ≡ At p g) × (P 16 permissions (openSource phys phy frame) (g .0) ≡ true) × (samePort phys phy (p .0) ≡ false)
 
-  by-tests : (q : PhyNumber) (g : ZoneGroup) (a b : Bool) → eqb (q .0) phy ≡ a → P 16 permissions (openSource phys phy frame) (g .0) ≡ b
+  by-tests : (q : PhyNumber) (g : ZoneGroup) (a b : Bool) → samePort phys phy (q .0) ≡ a → P 16 permissions (openSource phys phy frame) (g .0) ≡ b
       → cond a BadDestination (cond b (Forward q) ZoneViolation) ≡ Forward p → Reached (At q g)
   by-tests q g true b ea eb e = let z : _≡_ {A = ℕ} 0 1 = cc in absurd (omega arith)
   by-tests q g false false ea eb e = let z : _≡_ {A = ℕ} 0 1 = cc in absurd (omega arith)
   by-tests q g false true ea eb e =
       let s : q ≡ p = cc in
-      (g, ap (λ (x : PhyNumber). At x g) s, eb, λ h. eqb-false (q .0) phy ea (ap (λ (x : PhyNumber). x .0) s ∙ h))
+      (g, ap (λ (x : PhyNumber). At x g) s, eb, ap (λ (x : PhyNumber). samePort phys phy (x .0)) (sym s) ∙ ea)
 
   reached : (f : Found) → judge phys permissions phy frame f ≡ Forward p → Reached f
   unfolding judge
   reached Nothing e = let z : _≡_ {A = ℕ} 0 1 = cc in absurd (omega arith)
-  reached (At q g) e = by-tests q g (eqb (q .0) phy) (P 16 permissions (openSource phys phy frame) (g .0)) refl refl e
+  reached (At q g) e = by-tests q g (samePort phys phy (q .0)) (P 16 permissions (openSource phys phy frame) (g .0)) refl refl e
 
 module _ (phys routes permissions : List ℕ) (phy : ℕ) (frame : List ℕ) where
-  -- the phy that the search found, by a permission that is on, and not back to the arriving phy
+  -- the phy that the search found, by a permission that is on, and not back to the arriving phy's port
   pub forward-permitted : (p : PhyNumber) → opened phys routes permissions phy frame ≡ Forward p
-      → (g : ZoneGroup) × (search phys routes frame ≡ At p g) × (P 16 permissions (openSource phys phy frame) (g .0) ≡ true) × (p .0 ≡ phy → ⊥)
+      → (g : ZoneGroup) × (search phys routes frame ≡ At p g) × (P 16 permissions (openSource phys phy frame) (g .0) ≡ true) × (samePort phys phy (p .0) ≡ false)
   forward-permitted p e = reached phys permissions phy frame p (search phys routes frame) e
 
   -- where the permission is off nothing is forwarded, on no phy

@@ -5,7 +5,7 @@ use mathlib.Core.Bool.{Bool, true, false, cond, not, _&&_}
 use mathlib.Core.List.{List, [], _∷_, _++_}
 use Prim.Native.Nat.{ℕ, _+_, _*_, _/_, _%_, _<_, _≤_}
 use native.Mathlib.Omega.{arith}
-use borrow.Author.Tests.{eqb-true, leb-true, eq-eqb, ne-eqb, lt-ltb, le-ltb, not-true, not-false}
+use borrow.Author.Tests.{eqb-true, leb-true, lt-ltb, le-ltb, not-true, not-false}
 use mir.Syntax.{w8}
 use mir.Val.{Fits}
 use lib.Dec.{eqb}
@@ -19,6 +19,7 @@ use Rattle.tables.proofs.ArrivalLaws.{both, Arrived, arrival-clear}
 use Rattle.wire.specs.declared.PhyNumber.{PhyNumber}
 use Rattle.wire.specs.declared.ZoneGroup.{ZoneGroup}
 use Rattle.tables.specs.Phys.{phyRecord, phyCount, phyGroup, phyPriority, participating, ready}
+use Rattle.tables.specs.Ports.{samePort}
 use Rattle.tables.specs.Routes.{routesSized}
 use Rattle.opens.specs.declared.Found.{Found}
 use Rattle.opens.specs.declared.Found.the-variants.{At, Nothing}
@@ -82,19 +83,19 @@ write-end frame s₀ s x l e =
     ∙ set-append-left frame (drop 28 s₀) 20 x (omega arith)
 
 -- ---- admit
-module _ (phys permissions : List ℕ) (phy : ℕ) (frame : List ℕ) (p : PhyNumber) (g : ZoneGroup) where
-  pub admit-bad : p .0 ≡ phy → BadDestination ≡ judge phys permissions phy frame (At p g)
+module _ (phys permissions : List ℕ) (phy : ℕ) (frame : List ℕ) (p : PhyNumber) (g : ZoneGroup) (o : Bool) (eo : o ≡ samePort phys phy (p .0)) where
+  pub admit-bad : o ≡ true → BadDestination ≡ judge phys permissions phy frame (At p g)
   unfolding judge
-  admit-bad e = rw (eq-eqb _ _ e)
+  admit-bad h = rw (sym eo ∙ h)
 
-  module _ (n : p .0 ≡ phy → ⊥) (s : ℕ) (es : s ≡ openSource phys phy frame) (b : Bool) (eb : b ≡ P 16 permissions s (g .0)) where
+  module _ (n : o ≡ false) (s : ℕ) (es : s ≡ openSource phys phy frame) (b : Bool) (eb : b ≡ P 16 permissions s (g .0)) where
     pub admit-violation : not b ≡ true → ZoneViolation ≡ judge phys permissions phy frame (At p g)
     unfolding judge
-    admit-violation h = rw (ne-eqb _ _ n, ← es, sym eb ∙ not-true b h)
+    admit-violation h = rw (sym eo ∙ n, ← es, sym eb ∙ not-true b h)
 
     pub admit-forward : not b ≡ false → Forward p ≡ judge phys permissions phy frame (At p g)
     unfolding judge
-    admit-forward h = rw (ne-eqb _ _ n, ← es, sym eb ∙ not-false b h)
+    admit-forward h = rw (sym eo ∙ n, ← es, sym eb ∙ not-false b h)
 
 pub sent-forward : (phys : List ℕ) (phy : ℕ) (frame buffer : List ℕ) (p : PhyNumber) (x : ℕ) (after : List ℕ) → x ≡ byte20 phys phy frame (p .0) → after ≡ set frame 20 x ++ drop 28 buffer
     → after ≡ sent phys phy frame buffer (Forward p)
@@ -108,15 +109,15 @@ answered true b p = refl
 answered false true p = refl
 answered false false p = refl
 
-judged : (phys permissions : List ℕ) (phy : ℕ) (frame : List ℕ) (f : Found) → openedAs (judge phys permissions phy frame f) ≡ answer (valuesOf (judge phys permissions phy frame f))
+pub judged : (phys permissions : List ℕ) (phy : ℕ) (frame : List ℕ) (f : Found) → openedAs (judge phys permissions phy frame f) ≡ answer (valuesOf (judge phys permissions phy frame f))
 unfolding judge
 judged phys permissions phy frame Nothing = refl
-judged phys permissions phy frame (At p g) = answered (eqb (p .0) phy) (P 16 permissions (openSource phys phy frame) (g .0)) p
+judged phys permissions phy frame (At p g) = answered (samePort phys phy (p .0)) (P 16 permissions (openSource phys phy frame) (g .0)) p
 
 -- n is the number that the checks answered, f what the search gave
 module _ (phys routes permissions : List ℕ) (phy : ℕ) (frame buffer : List ℕ) (n : ℕ) (e : n ≡ firstRefusal (openChecks phys routes permissions phy frame (roomFor buffer))) (z : n ≡ 0) where
   -- where nothing is refused
-  clears : Arrived phys phy (routesSized routes && permissionsSized 16 permissions) (roomFor buffer) × (length frame ≡ 28)
+  clears : Arrived phys phy (routesSized routes && permissionsSized 16 permissions) (roomFor buffer) true × (length frame ≡ 28)
   clears =
       let k = arrival-clear phys phy (routesSized routes && permissionsSized 16 permissions) (roomFor buffer) true _ n e z tt in
       (k .0, k .1 .0)

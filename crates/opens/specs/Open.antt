@@ -2,7 +2,7 @@
 use mathlib.Core.Bool.{Bool, true, cond, _&&_}
 use mathlib.Core.List.{List, [], _∷_, _++_}
 use Prim.Native.Nat.{ℕ, _+_, _*_, _/_, _%_}
-use lib.Dec.{eqb, ltb, leb}
+use lib.Dec.{ltb, leb}
 use lib.ListN.{length, getD, set, drop}
 use Rattle.wire.specs.Bits.{num}
 use Rattle.wire.specs.Groups.{groupOf}
@@ -10,6 +10,7 @@ use Rattle.permit.specs.Permission.{permissionsSized, P}
 use Rattle.tables.specs.Refusals.{Check, refuse, differ, firstRefusal}
 use Rattle.tables.specs.Outcome.{Answer, refusal, answer, Out, outcome}
 use Rattle.tables.specs.Phys.{phyGroup, phyPriority, participating}
+use Rattle.tables.specs.Ports.{samePort}
 use Rattle.tables.specs.Routes.{routesSized}
 use Rattle.tables.specs.Arrival.{arrivalChecks}
 use Rattle.opens.specs.declared.Found.{Found}
@@ -50,11 +51,11 @@ openChecks phys routes permissions phy frame room =
 unfoldable pub openSource : List ℕ → ℕ → List ℕ → ℕ
 openSource phys phy frame = cond (participating phys phy) (groupOf (getD frame 20 0)) (phyGroup phys phy)
 
--- "Outcomes in order": 1 and 2, 3, 4
+-- "Outcomes in order": 1 and 2, 3, 4. "BAD DESTINATION is given when the phy found is in the arriving phy's port."
 unfoldable pub judge : List ℕ → List ℕ → ℕ → List ℕ → Found → Opened
 judge phys permissions phy frame Nothing = NoDestination
 judge phys permissions phy frame (At p g) =
-    cond (eqb (p .0) phy) BadDestination
+    cond (samePort phys phy (p .0)) BadDestination
     (cond (P 16 permissions (openSource phys phy frame) (g .0)) (Forward p) ZoneViolation)
 
 -- the outcome of an OPEN that is not refused

@@ -209,7 +209,7 @@ fn admit(
     requires { ⌜ (phy .0 < phyCount (now phys)) × (length (now permissions) ≡ 2048) × (length (now frame) ≡ 28) × (28 ≤ length (now buffer)) × (p .0 < phyCount (now phys)) × (g .0 < 128) ⌝ }
     ensures { λ r. ⌜ (r ≡ judge (now (phys .entry)) (now (permissions .entry)) (phy .0) (now (frame .entry)) (At p g)) × (now (buffer .exit) ≡ sent (now (phys .entry)) (phy .0) (now (frame .entry)) (now (buffer .entry)) r) ⌝ }
 {
-    if p.0 == phy.0 {
+    if tables::same_port(phys, phy, p) {
         return Opened::BadDestination;
     }
     let source = open_source(phys, phy, frame);

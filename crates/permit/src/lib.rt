@@ -40,7 +40,7 @@ fn row_has(rows: &[u8], row: usize, group: usize) -> bool
     requires { ⌜ (16 * row + 16 ≤ length (now rows)) × (group < 128) ⌝ }
     ensures { λ r. ⌜ r ≡ P 16 (now (rows .entry)) row group ⌝ }
 {
-    rows[row * 16 + (15 - group / 8)] & mask(group) != 0
+    rows[row * 16 + 15 - group / 8] & mask(group) != 0
 }
 
 // Whether a may reach b.

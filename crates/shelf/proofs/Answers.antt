@@ -1,18 +1,25 @@
--- Answers: a refused call leaves every lent buffer as it was; an SMP request turned down writes four response bytes and a zero set.
+-- Answers: a refused call leaves every lent buffer as it was; an SMP request turned down writes four response bytes and a zero set; what an
+-- answer tells of the judgement.
 -- Assumes nothing.
 use mathlib.Core.Path.{_≡_, refl, sym, ap, _∙_}
 use mathlib.Core.List.{List, [], _∷_, _++_}
 use Prim.Native.Nat.{ℕ, zero, suc, _+_}
 use native.Mathlib.Omega.{arith}
 use lib.ListN.{length, drop}
+use Rattle.wire.specs.declared.PhyNumber.{PhyNumber}
 use Rattle.wire.specs.Bits.{bit}
 use Rattle.wire.specs.PhySet.{member, tally, physIn}
 use Rattle.tables.specs.Outcome.{Answer, refusal, answer, Out, out, outcome}
 use Rattle.tables.specs.Phys.{emptySet}
+use Rattle.opens.specs.declared.Opened.the-variants.{Forward}
+use Rattle.opens.specs.Search.{search}
+use Rattle.opens.specs.Open.{openedAs, opened, openOut}
+use Rattle.opens.proofs.OpenSteps.{judged}
+use Rattle.opens.proofs.Unique.{one-answer}
 use Rattle.requests.specs.Requests.{Reply, turnedDown}
 use Rattle.smp.specs.Smp.{functionOf, smpReply, valuesOf, buffersOf}
 use Rattle.smp.proofs.SmpLaws.{down}
-use Rattle.shelf.specs.Calls.{Call, startUp, leaving, identify, elect, opening, primitive, broadcastFrame, smp, outcomeOf, handedIn}
+use Rattle.shelf.specs.Calls.{Call, startUp, leaving, identify, elect, opening, primitive, broadcastFrame, smp, outcomeOf, handedIn, answerOf}
 use Rattle.shelf.specs.Promises.{Refusals, TurnedDown}
 
 -- an outcome that is a refusal has the buffers that were handed in
@@ -38,6 +45,17 @@ pub gave : (m : ℕ) (values : List ℕ) (old new : List (List ℕ)) (vs : List 
 unfolding outcome
 gave zero values old new vs bs e = (cc, cc)
 gave (suc m) values old new vs bs e = let z : _≡_ {A = ℕ} 0 1 = cc in absurd (omega arith)
+
+answered : (m : ℕ) (vs ws : List ℕ) (old new : List (List ℕ)) → answerOf (outcome m vs old new) ≡ answer ws → vs ≡ ws
+unfolding outcome
+answered zero vs ws old new e = cc
+answered (suc m) vs ws old new e = let z : _≡_ {A = ℕ} 0 1 = cc in absurd (omega arith)
+
+-- an OPEN that was answered with a phy was judged so
+pub forwarded : (phys routes t : List ℕ) (phy : ℕ) (frame buffer : List ℕ) (q : PhyNumber) → answerOf (openOut phys routes t phy frame buffer) ≡ openedAs (Forward q)
+    → opened phys routes t phy frame ≡ Forward q
+forwarded phys routes t phy frame buffer q e =
+    one-answer _ _ (judged phys t phy frame (search phys routes frame) ∙ ap answer (answered _ _ _ _ _ e))
 
 none-told : physIn emptySet ≡ 0
 unfolding physIn tally member bit emptySet

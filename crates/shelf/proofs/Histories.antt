@@ -9,8 +9,6 @@ use native.Mathlib.Omega.{arith}
 use borrow.Author.Tests.{eq-eqb, ne-eqb}
 use lib.Dec.{eqb}
 use lib.ListN.{length, getD, drop}
-use Rattle.wire.specs.declared.PhyNumber.{PhyNumber}
-use Rattle.wire.specs.declared.ZoneGroup.{ZoneGroup}
 use Rattle.wire.specs.PhySet.{member}
 use Rattle.wire.proofs.Sets.{member-front}
 use Rattle.permit.specs.Permission.{P, startTable}
@@ -22,19 +20,15 @@ use Rattle.tables.specs.Refusals.{firstRefusal}
 use Rattle.tables.specs.Outcome.{Answer, refusal, answer, Out, out, outcome}
 use Rattle.tables.specs.Phys.{phyGroup}
 use Rattle.links.specs.Links.{startUpOut}
-use Rattle.opens.specs.declared.Opened.{Opened}
-use Rattle.opens.specs.declared.Opened.the-variants.{Refused, NoDestination, BadDestination, ZoneViolation, Forward}
-use Rattle.opens.specs.declared.Found.the-variants.{At}
-use Rattle.opens.specs.Search.{search}
-use Rattle.opens.specs.Open.{valuesOf, openSource, opened, openOut}
+use Rattle.opens.specs.Open.{openSource}
 use Rattle.opens.proofs.OpenLaws as opens
 use Rattle.broadcasts.specs.Broadcasts.{toldSet, frameSource, primitiveOut, broadcastOut}
-use Rattle.broadcasts.proofs.BroadcastLaws as broadcasts
+use Rattle.broadcasts.proofs.ToldLaws as broadcasts
 use Rattle.smp.specs.Smp.{roomFor, smpChecks, smpOut, acceptedOrders}
 use Rattle.smp.proofs.SmpLaws.{permissionsAfter, orders-applied, orders-valid}
 use Rattle.shelf.specs.Calls.{Call, startUp, leaving, identify, elect, opening, primitive, broadcastFrame, smp, outcomeOf, answerOf, bufferOf, after, accepted, kept, run, orders}
 use Rattle.shelf.specs.Promises.{History, NoOpen, NoBroadcast}
-use Rattle.shelf.proofs.Answers.{gave}
+use Rattle.shelf.proofs.Answers.{gave, forwarded}
 
 -- the table is what the orders made of start-up's
 record Made (t : List ℕ) (os : List Order) : Type 0 where
@@ -120,25 +114,10 @@ off : (t : List ℕ) (cs : List Call) → length t ≡ 2048 → (a b : ℕ) → 
     → P 16 (run (startUp ∷ cs) t) a b ≡ false
 off t cs e a b za zb h = any-run t cs e .pairs a b za zb ∙ h
 
--- an answer that is no refusal has the call's values
-answered : (m : ℕ) (vs ws : List ℕ) (old new : List (List ℕ)) → answerOf (outcome m vs old new) ≡ answer ws → vs ≡ ws
-unfolding outcome
-answered zero vs ws old new e = cc
-answered (suc m) vs ws old new e = let z : _≡_ {A = ℕ} 0 1 = cc in absurd (omega arith)
-
 pub no-open : NoOpen
 no-open t cs e phys routes phy frame buffer p g s za zb h q o =
-    forwards (opened phys routes (run (startUp ∷ cs) t) phy frame) refl (answered _ _ _ _ _ o)
-  where
-    stays : (x : PhyNumber) → opened phys routes (run (startUp ∷ cs) t) phy frame ≡ Forward x → ⊥
-    stays = opens.barred phys routes (run (startUp ∷ cs) t) phy frame p g s (off t cs e (openSource phys phy frame) (g .0) za zb h)
-
-    forwards : (r : Opened) → opened phys routes (run (startUp ∷ cs) t) phy frame ≡ r → valuesOf r ≡ 4 ∷ q .0 ∷ [] → ⊥
-    forwards (Refused n) er ev = let z : _≡_ {A = ℕ} 0 1 = cc in omega arith
-    forwards NoDestination er ev = let z : _≡_ {A = ℕ} 1 4 = cc in omega arith
-    forwards BadDestination er ev = let z : _≡_ {A = ℕ} 2 4 = cc in omega arith
-    forwards ZoneViolation er ev = let z : _≡_ {A = ℕ} 3 4 = cc in omega arith
-    forwards (Forward x) er ev = stays x er
+    opens.barred phys routes (run (startUp ∷ cs) t) phy frame p g s (off t cs e (openSource phys phy frame) (g .0) za zb h) q
+    (forwarded phys routes (run (startUp ∷ cs) t) phy frame buffer q o)
 
 -- a phy of a group that the source may not reach is not in the set at the head of the buffer
 unheard : (phys t : List ℕ) (phy source s i : ℕ) (rest : List ℕ) → s ≡ source → i < 128 → P 16 t source (phyGroup phys i) ≡ false

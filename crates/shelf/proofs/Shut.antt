@@ -14,7 +14,7 @@ use Rattle.tables.specs.Outcome.{Answer, answer, out}
 use Rattle.tables.specs.Phys.{phyGroup}
 use Rattle.election.proofs.ElectionLaws.{greatest}
 use Rattle.broadcasts.specs.Broadcasts.{toldSet, frameSource}
-use Rattle.broadcasts.proofs.BroadcastLaws.{length-told}
+use Rattle.broadcasts.proofs.ToldLaws.{length-told}
 use Rattle.requests.specs.Requests.{Reply}
 use Rattle.smp.specs.Smp.{smpReply}
 use Rattle.smp.proofs.SmpLaws.{set-16}

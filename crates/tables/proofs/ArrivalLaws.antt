@@ -9,7 +9,7 @@ use borrow.Author.Tests.{eqb-true, leb-true, not-false}
 use lib.Dec.{eqb, leb}
 use lib.ListN.{length}
 use Rattle.tables.specs.Refusals.{Check, firstRefusal, Fails, Clear}
-use Rattle.tables.specs.Phys.{phyRecord, phyCount, physSized}
+use Rattle.tables.specs.Phys.{phyRecord, phyCount, physSized, ready}
 use Rattle.tables.specs.Arrival.{unlike, arrivalChecks}
 use Rattle.tables.proofs.RefusalLaws.{Holds, Numbered, clear, front, back, apart}
 
@@ -29,18 +29,23 @@ unlike-fails false true v e h = never (sym h)
 unlike-fails true false v e h = never (sym h)
 unlike-fails false false v e h = sym e
 
+awaited-is : (a v : Bool) → Fails (unlike a v) → v ≡ a
+awaited-is true v e = not-false v e
+awaited-is false v e = e
+
 -- ---- two things that are both so
 pub both : (a b : Bool) → (a && b) ≡ true → (a ≡ true) × (b ≡ true)
 both true b e = (refl, e)
 both false b e = never e
 
 -- ---- what is known where none of the shared rows holds
-pub record Arrived (phys : List ℕ) (phy : ℕ) (sizes room : Bool) : Type 0 where
+pub record Arrived (phys : List ℕ) (phy : ℕ) (sizes room awaited : Bool) : Type 0 where
   pub records : length phys % phyRecord ≡ 0
   pub most : length phys ≤ 128 * phyRecord
   pub sized : sizes ≡ true
   pub there : phy < phyCount phys
   pub roomy : room ≡ true
+  pub state : ready phys phy ≡ awaited
 
 pub phys-records : (phys : List ℕ) → physSized phys ≡ true → (length phys % phyRecord ≡ 0) × (length phys ≤ 128 * phyRecord)
 unfolding physSized
@@ -53,7 +58,7 @@ module _ (phys : List ℕ) (phy : ℕ) (sizes room awaited : Bool) where
   unfolding arrivalChecks
   numbered = tt
 
-  pub arrived : (r : ℕ) → r ≡ firstRefusal (arrivalChecks phys phy sizes room awaited) → r ≡ 0 → Arrived phys phy sizes room
+  pub arrived : (r : ℕ) → r ≡ firstRefusal (arrivalChecks phys phy sizes room awaited) → r ≡ 0 → Arrived phys phy sizes room awaited
   unfolding arrivalChecks
   arrived r e z =
       let k = clear (arrivalChecks phys phy sizes room awaited) r e z tt in
@@ -64,6 +69,7 @@ module _ (phys : List ℕ) (phy : ℕ) (sizes room awaited : Bool) where
         sized = not-false sizes (search k);
         there = omega (arith, k);
         roomy = not-false room (search k);
+        state = awaited-is awaited (ready phys phy) (search k);
       }
 
   pub arrival-there : (r : ℕ) → r ≡ firstRefusal (arrivalChecks phys phy sizes room awaited) → r ≡ 0 → phy < phyCount phys
@@ -84,7 +90,7 @@ module _ (phys : List ℕ) (phy : ℕ) (sizes room awaited : Bool) where
 
   -- where neither gives a number, what the shared rows let pass is known, and so is what the call's own do
   pub arrival-clear : (own : List Check) (r : ℕ) → r ≡ firstRefusal (arrivalChecks phys phy sizes room awaited ++ own) → r ≡ 0
-      → Numbered own → Arrived phys phy sizes room × Clear own
+      → Numbered own → Arrived phys phy sizes room awaited × Clear own
   arrival-clear own r e z k =
       let p = apart _ own numbered (sym e ∙ z) in
       (arrived 0 (sym (p .0)) refl, clear own 0 (sym (p .1)) refl k)

@@ -9,7 +9,7 @@ use borrow.Author.Tests.{eq-eqb, ne-eqb, eqb-true, eqb-false, not-true}
 use lib.Dec.{eqb}
 use Rattle.tables.specs.Phys.{ready, phyAddress}
 use Rattle.tables.specs.Ports.{samePort}
-use Rattle.tables.proofs.ArrivalLaws.{both}
+use Rattle.tables.proofs.ArrivalLaws.{never, both}
 
 -- two ready phys with the same address, which is not zero
 pub record Sisters (phys : List ℕ) (i j : ℕ) : Type 0 where
@@ -64,6 +64,41 @@ port-trans phys i j k e d = go (port-view phys i j e) (port-view phys j k d)
     go (inl p) y = ap (λ (x : ℕ). samePort phys x k) p ∙ d
     go (inr r) (inl q) = ap (λ (x : ℕ). samePort phys i x) (sym q) ∙ e
     go (inr r) (inr q) = port-sisters phys i k (record { first = r .first; second = q .second; known = r .known; same = r .same ∙ q .same })
+
+-- two phys that are neither the same nor sisters are in two ports
+pub port-apart : (phys : List ℕ) (i j : ℕ) → (i ≡ j → ⊥) → (Sisters phys i j → ⊥) → samePort phys i j ≡ false
+port-apart phys i j ne ns = go (samePort phys i j) refl
+  where
+    apart : (i ≡ j) ⊎ Sisters phys i j → ⊥
+    apart (inl p) = ne p
+    apart (inr r) = ns r
+
+    go : (v : Bool) → samePort phys i j ≡ v → v ≡ false
+    go true e = absurd (apart (port-view phys i j e))
+    go false e = refl
+
+-- a phy that is not ready is a port by itself, and so is one with address zero
+pub port-unready : (phys : List ℕ) (i j : ℕ) → ready phys i ≡ false → samePort phys i j ≡ true → i ≡ j
+port-unready phys i j off e = go (port-view phys i j e)
+  where
+    go : (i ≡ j) ⊎ Sisters phys i j → i ≡ j
+    go (inl p) = p
+    go (inr r) = never (sym off ∙ r .first)
+
+pub port-zero : (phys : List ℕ) (i j : ℕ) → phyAddress phys i ≡ 0 → samePort phys i j ≡ true → i ≡ j
+port-zero phys i j z e = go (port-view phys i j e)
+  where
+    go : (i ≡ j) ⊎ Sisters phys i j → i ≡ j
+    go (inl p) = p
+    go (inr r) = absurd (r .known z)
+
+-- a phy outside k's port has its whole port outside
+pub port-outside : (phys : List ℕ) (k i j : ℕ) → samePort phys k i ≡ false → samePort phys i j ≡ true → samePort phys k j ≡ false
+port-outside phys k i j out e = go (samePort phys k j) refl
+  where
+    go : (v : Bool) → samePort phys k j ≡ v → v ≡ false
+    go true p = never (sym out ∙ port-trans phys k j i p (port-sym phys i j e))
+    go false p = refl
 
 -- ---- as the code asks it
 pub port-same : (phys : List ℕ) (i j : ℕ) → i ≡ j → true ≡ samePort phys i j

@@ -61,6 +61,24 @@ fill-again f n s₀ s k x l h e r = record {
   filled = fill-more f s s₀ k x (omega arith) (r .filled) e;
 }
 
+-- a byte that is what it should be need not be filled; nor need all that are left
+fill-skip : (f : ℕ → ℕ) (n : ℕ) (s₀ s : List ℕ) (k : ℕ) → n ≤ length s₀ → k < n → getD s₀ k 0 ≡ f k → Filled f n s₀ s k → Filled f n s₀ s (k + 1)
+fill-skip f n s₀ s k l h e r = record {
+  within = omega arith;
+  same = r .same;
+  filled =
+      r .filled
+      ∙ ap (λ (t : List ℕ). tab f 0 k ++ t) (drop-cons s₀ k 0 (omega arith))
+      ∙ sym (append-snoc (tab f 0 k) (getD s₀ k 0) (drop (suc k) s₀))
+      ∙ rw (add-one k, tab-snoc f 0 k, zero-add k, e);
+}
+
+pub fill-rest : (f : ℕ → ℕ) (n : ℕ) (s₀ s : List ℕ) (k m : ℕ) → n ≤ length s₀ → k + m ≡ n → ((j : ℕ) → k ≤ j → j < n → getD s₀ j 0 ≡ f j) → Filled f n s₀ s k
+    → Filled f n s₀ s n
+fill-rest f n s₀ s k zero l e h r = let z : k ≡ n = omega arith in rw z at r
+fill-rest f n s₀ s k (suc m) l e h r =
+    fill-rest f n s₀ s (k + 1) m l (omega arith) (λ j a b. h j (omega arith) b) (fill-skip f n s₀ s k l (omega arith) (h k (omega arith) (omega arith)) r)
+
 pub fill-end : (f : ℕ → ℕ) (n : ℕ) (s₀ s : List ℕ) (k : ℕ) → n ≤ k → Filled f n s₀ s k → s ≡ tab f 0 n ++ drop n s₀
 fill-end f n s₀ s k h r =
     let l = r .within in

@@ -3,8 +3,9 @@
 use mathlib.Core.Path.{_≡_, refl, sym, ap, ap₂, _∙_}
 use mathlib.Core.Bool.{Bool, true, false}
 use mathlib.Core.List.{List, [], _∷_, _++_}
-use Prim.Native.Nat.{ℕ, zero, suc, _+_, _-_, _*_, _/_, _%_, _^_, _≤_, _<_}
+use Prim.Native.Nat.{ℕ, zero, suc, _+_, _-_, _*_, _/_, _%_, _^_, min, _≤_, _<_}
 use native.Mathlib.Nat.{pow-suc, pow-le-pow-right, add-zero, zero-add}
+use native.Mathlib.Decide.{decLt}
 use native.Mathlib.Numerals.{add-one}
 use native.Mathlib.Omega.{arith}
 use mir.Syntax.{w8}
@@ -91,6 +92,79 @@ module _ (f : ℕ → Bool) (a b j : ℕ) where
 pub down-start : (f : ℕ → Bool) (a : ℕ) → Down f a 0 8
 unfolding bitsOf
 down-start f a = record { within = omega arith; bits = refl }
+
+-- ---- the loop that makes a byte from its lowest bit up, as far as there are phys
+bits-next : (f : ℕ → Bool) (a n : ℕ) → bitsOf f a (suc n) ≡ bitsOf f a n + num (f (a + n)) * 2 ^ n
+unfolding bitsOf
+bits-next f a zero = rw (add-zero a) (omega arith)
+bits-next f a (suc n) =
+    let e : suc a + n ≡ a + suc n = omega arith in
+    let r : bitsOf f (suc a) (suc n) ≡ bitsOf f (suc a) n + num (f (a + suc n)) * 2 ^ n = bits-next f (suc a) n ∙ ap (λ (k : ℕ). bitsOf f (suc a) n + num (f k) * 2 ^ n) e in
+    ap (λ (x : ℕ). num (f a) + 2 * x) r ∙ rw (pow-suc 2 n) (omega arith)
+
+bits-rest : (f : ℕ → Bool) (a n m : ℕ) → ((k : ℕ) → a + n ≤ k → f k ≡ false) → bitsOf f a (n + m) ≡ bitsOf f a n
+bits-rest f a n zero h = ap (bitsOf f a) (add-zero n)
+bits-rest f a n (suc m) h =
+    let e : n + suc m ≡ suc (n + m) = omega arith in
+    ap (bitsOf f a) e ∙ bits-next f a (n + m) ∙ rw (h (a + (n + m)) (omega arith), bits-rest f a n m h) (omega arith)
+
+-- past the last phy a byte is zero
+pub byte-past : (f : ℕ → Bool) (k : ℕ) → ((j : ℕ) → 8 * k ≤ j → f j ≡ false) → setByte f k ≡ 0
+unfolding setByte bitsOf
+byte-past f k h = bits-rest f (8 * k) 0 8 (λ j l. h j (omega arith))
+
+-- its invariant: the bits of a up to i are in, and the next one is `bit`
+pub record Up (f : ℕ → Bool) (a byte bit i : ℕ) : Type 0 where
+  pub from : a ≤ i
+  pub to : i ≤ a + 8
+  pub bits : byte ≡ bitsOf f a (i - a)
+  pub next : bit ≡ 2 ^ (i - a)
+
+pub up-start : (f : ℕ → Bool) (a : ℕ) → Up f a 0 1 a
+unfolding bitsOf
+up-start f a = let z : a - a ≡ 0 = omega arith in record { from = omega arith; to = omega arith; bits = rw z; next = rw z }
+
+module _ (f : ℕ → Bool) (a byte bit i : ℕ) (u : Up f a byte bit i) (h : i < a + 8) where
+  up-power : 2 * bit ≤ 256
+  up-power =
+      let j : i - a ≤ 7 = omega (arith, u .from) in
+      let p : 2 ^ (i - a) ≤ 2 ^ 7 = pow-le-pow-right (lit< tt) j in omega (arith, u .next)
+
+  up-byte : byte < bit
+  up-byte = omega (arith, u .bits, u .next, bits-lt f a (i - a))
+
+  pub up-room : byte + bit < 256
+  up-room = omega (arith, up-power, up-byte)
+
+  pub up-twice : bit + bit < 65536
+  up-twice = omega (arith, up-power)
+
+  up-more : (x : ℕ) → x ≡ bitsOf f a (i - a) + num (f i) * 2 ^ (i - a) → Up f a x (bit + bit) (i + 1)
+  up-more x e =
+      let n : i + 1 - a ≡ suc (i - a) = omega (arith, u .from) in
+      let p : a + (i - a) ≡ i = omega (arith, u .from) in
+      record {
+        from = omega (arith, u .from);
+        to = omega arith;
+        bits = e ∙ rw n (sym (bits-next f a (i - a) ∙ ap (λ (k : ℕ). bitsOf f a (i - a) + num (f k) * 2 ^ (i - a)) p));
+        next = rw (n, pow-suc 2 (i - a)) (omega (arith, u .next));
+      }
+
+  pub up-on : true ≡ f i → Up f a (byte + bit) (bit + bit) (i + 1)
+  up-on e = up-more (byte + bit) (rw (← e) (omega (arith, u .bits, u .next)))
+
+  pub up-off : false ≡ f i → Up f a byte (bit + bit) (i + 1)
+  up-off e = up-more byte (rw (← e) (omega (arith, u .bits)))
+
+-- eight bits, or all that there are below n
+pub up-end : (f : ℕ → Bool) (a byte bit i n : ℕ) → Up f a byte bit i → min (a + 8) n ≤ i → ((k : ℕ) → n ≤ k → false ≡ f k) → byte ≡ bitsOf f a 8
+up-end f a byte bit i n u h past = whole (decLt i n)
+  where
+    whole : Dec (i < n) → byte ≡ bitsOf f a 8
+    whole (yes l) = let e : i - a ≡ 8 = omega (arith, u .from, u .to) in u .bits ∙ ap (bitsOf f a) e
+    whole (no l) =
+        let e : i - a + (8 - (i - a)) ≡ 8 = omega (arith, u .from, u .to) in
+        u .bits ∙ sym (sym (ap (bitsOf f a) e) ∙ bits-rest f a (i - a) (8 - (i - a)) (λ k m. sym (past k (omega (arith, u .from)))))
 
 -- ---- the count
 pub tally-le : (f : ℕ → Bool) (i n : ℕ) → tally f i n ≤ n

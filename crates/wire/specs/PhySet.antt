@@ -1,5 +1,5 @@
 -- "The phy set is 16 bytes, phy i at bit i mod 8 of byte i/8."
-use mathlib.Core.Bool.{Bool}
+use mathlib.Core.Bool.{Bool, false, _||_}
 use mathlib.Core.List.{List}
 use Prim.Native.Nat.{ℕ, zero, suc, _+_, _*_, _/_, _%_}
 use lib.Dec.{eqb}
@@ -31,3 +31,8 @@ tally f i (suc n) = num (f i) + tally f (suc i) n
 -- "the count is the number of ones in the sixteen bytes": how many of the phys 0 to 127 are in the set s
 unfoldable pub physIn : List ℕ → ℕ
 physIn s = tally (member s) 0 128
+
+-- f is true at some number below n
+unfoldable pub some : (ℕ → Bool) → ℕ → Bool
+some f zero = false
+some f (suc n) = f n || some f n

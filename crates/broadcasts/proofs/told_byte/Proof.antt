@@ -1,54 +1,51 @@
 -- `broadcasts::told_byte` meets its contract.
 -- Assumes nothing.
-use Prim.Native.Nat.{_-_, _*_}
-use Rattle.wire.specs.PhySet.{setByte}
-use Rattle.wire.proofs.Sets.{Down, down-start, down-doubles, down-fits, down-again, down-end}
-use Rattle.broadcasts.specs.Broadcasts.{told}
+use mathlib.Core.Logic.{⊎-elim}
+use Prim.Native.Nat.{_-_}
+use Rattle.broadcasts.proofs.Chains.{Rising, rise-start, rise-there, rise-room, rise-twice, rise-on, rise-off, rise-fits, rise-end}
 use native.Mathlib.Omega.{arith}
 use borrow.Author.Needs.{needs}
 use Rattle.broadcasts.proofs.told_byte.Statement.{statement}
 use Rattle.broadcasts.proofs.told_byte.Tie as tie
 
 abbrev Inv-loop : tie.InvT-loop
-Inv-loop phys permissions phy source k byte₀ j₀ byte j =
-    Down (told phys permissions (phy .0) (source .0)) (8 * k) byte j
+Inv-loop phys permissions phy own source k slots₀ next₀ end byte₀ bit₀ i₀ slots next byte bit i = Rising phys permissions (phy .0) (source .0) k slots next byte bit i
 
 abbrev μ-loop : tie.MeasureT-loop
-μ-loop phys permissions phy source k byte₀ j₀ byte j = j
+μ-loop phys permissions phy own source k slots₀ next₀ end byte₀ bit₀ i₀ slots next byte bit i = end - i
+
+byte-end-requires : tie.Need-byte-end-requires Inv-loop μ-loop
+byte-end-requires c κs = omega arith
+
+mul-i : tie.Need-mul-i Inv-loop μ-loop
+mul-i c = omega arith
 
 loop-holds : tie.Need-loop-holds Inv-loop μ-loop
-loop-holds c = search down-start
-
-sub-j : tie.Need-sub-j Inv-loop μ-loop
-sub-j c = omega arith
-
-mul-byte : tie.Need-mul-byte Inv-loop μ-loop
-mul-byte c = search down-doubles
-
-mul-is-told : tie.Need-mul-is-told Inv-loop μ-loop
-mul-is-told c = omega arith
-
-add-is-told : tie.Need-add-is-told Inv-loop μ-loop
-add-is-told c = omega arith
+loop-holds c = search rise-start
 
 is-told-requires : tie.Need-is-told-requires Inv-loop μ-loop
-is-told-requires c κs = search needs
-
-cast-byte : tie.Need-cast-byte Inv-loop μ-loop
-cast-byte c = search needs
+is-told-requires c κs = search (needs, rise-there)
 
 add-byte : tie.Need-add-byte Inv-loop μ-loop
-add-byte c = search down-fits
+add-byte c = search rise-room
+
+add-bit : tie.Need-add-bit Inv-loop μ-loop
+add-bit c = search rise-twice
+
+add-i : tie.Need-add-i Inv-loop μ-loop
+add-i c = omega arith
 
 loop-less : tie.Need-loop-less Inv-loop μ-loop
 loop-less c = omega arith
 
 loop-again : tie.Need-loop-again Inv-loop μ-loop
-loop-again c = search down-again
+loop-again c = ⊎-elim (λ w. search rise-on) (λ w. search rise-off) (c .if1 .came)
+
+cast-result : tie.Need-cast-result Inv-loop μ-loop
+cast-result c = search rise-fits
 
 returns : tie.Need-returns Inv-loop μ-loop
-unfolding setByte
-returns c = search down-end
+returns c = search rise-end
 
 pub told-byte-spec : {M : Type 1} → statement M
 told-byte-spec =
@@ -56,14 +53,14 @@ told-byte-spec =
     (tie.spec
     Inv-loop
     μ-loop
+    byte-end-requires
+    mul-i
     loop-holds
-    sub-j
-    mul-byte
-    mul-is-told
-    add-is-told
     is-told-requires
-    cast-byte
     add-byte
+    add-bit
+    add-i
     loop-less
     loop-again
+    cast-result
     returns)

@@ -1,29 +1,35 @@
 -- `broadcasts::write_told_set` meets its contract.
 -- Assumes nothing.
 use Prim.Native.Nat.{_-_}
-use Rattle.wire.specs.PhySet.{setByte, setOf}
-use Rattle.wire.proofs.Loops.{Filled, fill-start, fill-again, fill-end}
-use Rattle.broadcasts.specs.Broadcasts.{told, toldSet}
+use Rattle.broadcasts.proofs.Chains.{Telling, tell-start, tell-room, tell-again, tell-end}
 use native.Mathlib.Omega.{arith}
 use borrow.Author.Needs.{needs}
 use Rattle.broadcasts.proofs.write_told_set.Statement.{statement}
 use Rattle.broadcasts.proofs.write_told_set.Tie as tie
 
 abbrev Inv-loop : tie.InvT-loop
-Inv-loop phys permissions phy source set₀ k₀ set k =
-    Filled (setByte (told phys permissions (phy .0) (source .0))) 16 set₀ set k
+Inv-loop phys permissions phy source set₀ own count slots₀ next₀ k₀ set slots next k = Telling phys permissions (phy .0) (source .0) set₀ set slots next k
 
 abbrev μ-loop : tie.MeasureT-loop
-μ-loop phys permissions phy source set₀ k₀ set k = 16 - k
+μ-loop phys permissions phy source set₀ own count slots₀ next₀ k₀ set slots next k = count - k
+
+phy-address-requires : tie.Need-phy-address-requires Inv-loop μ-loop
+phy-address-requires c κs = search needs
+
+write-empty-set-requires : tie.Need-write-empty-set-requires Inv-loop μ-loop
+write-empty-set-requires c κs = search needs
 
 loop-holds : tie.Need-loop-holds Inv-loop μ-loop
-loop-holds c = search fill-start
+loop-holds c = search tell-start
+
+mul-loop : tie.Need-mul-loop Inv-loop μ-loop
+mul-loop c = omega arith
 
 told-byte-requires : tie.Need-told-byte-requires Inv-loop μ-loop
-told-byte-requires c κs = search needs
+told-byte-requires c κs = (search needs, search needs, search needs, search needs, c .before .before .before .loop .inv .kept (omega arith))
 
 slice-write-set : tie.Need-slice-write-set Inv-loop μ-loop
-slice-write-set c = omega arith
+slice-write-set c = search tell-room
 
 add-k : tie.Need-add-k Inv-loop μ-loop
 add-k c = omega arith
@@ -32,14 +38,13 @@ loop-less : tie.Need-loop-less Inv-loop μ-loop
 loop-less c = omega arith
 
 loop-again : tie.Need-loop-again Inv-loop μ-loop
-loop-again c = search fill-again
+loop-again c = search tell-again
 
 same-length : tie.Need-same-length Inv-loop μ-loop
 same-length c = omega arith
 
 returns : tie.Need-returns Inv-loop μ-loop
-unfolding toldSet setOf
-returns c = search fill-end
+returns c = search tell-end
 
 pub write-told-set-spec : {M : Type 1} → statement M
 write-told-set-spec =
@@ -47,7 +52,10 @@ write-told-set-spec =
     (tie.spec
     Inv-loop
     μ-loop
+    phy-address-requires
+    write-empty-set-requires
     loop-holds
+    mul-loop
     told-byte-requires
     slice-write-set
     add-k

@@ -7,6 +7,9 @@ use borrow.Author.Needs.{needs}
 use Rattle.opens.proofs.admit.Statement.{statement}
 use Rattle.opens.proofs.admit.Tie as tie
 
+same-port-requires : tie.Need-same-port-requires
+same-port-requires c κs = search needs
+
 returns : tie.Need-returns
 unfolding sent
 returns c = (search admit-bad, refl)
@@ -37,6 +40,7 @@ pub admit-spec : {M : Type 1} → statement M
 admit-spec =
     tie.close
     (tie.spec
+    same-port-requires
     returns
     open-source-requires
     permitted-requires

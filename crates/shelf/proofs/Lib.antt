@@ -3,3 +3,4 @@ pub mod Exactly
 pub mod Histories
 pub mod Worked
 pub mod Shut
+pub mod WidePorts

@@ -1,11 +1,11 @@
 -- What is promised. The proofs are in proofs/: Answers.antt (Refusals, TurnedDown), Exactly.antt (ExactlyOne), Worked.antt (Cases, whose rows
--- are in Cases.antt, and LaterToo), Histories.antt (History, NoOpen, NoBroadcast) and Shut.antt (Counted, Supervisor, ShutOut). Quotes are of
--- the three demands, docs/PROMISES.md, and of document 01.
+-- are in Cases.antt, and LaterToo), Histories.antt (History, NoOpen, NoBroadcast), WidePorts.antt (ToldPermitted, ToldOnce, EachPortTold, NoReturn,
+-- LeavesPort) and Shut.antt (Counted, Supervisor, ShutOut). Quotes are of the three demands, docs/PROMISES.md, of document 01 and of document 02.
 use mathlib.Core.Path.{_≡_}
 use mathlib.Core.Bool.{Bool, true, false}
 use mathlib.Core.Logic.{_⊎_}
 use mathlib.Core.List.{List, [], _∷_, _++_}
-use Prim.Native.Nat.{ℕ, _<_}
+use Prim.Native.Nat.{ℕ, _≤_, _<_}
 use lib.ListN.{length, getD, drop}
 use Rattle.wire.specs.declared.PhyNumber.{PhyNumber}
 use Rattle.wire.specs.declared.ZoneGroup.{ZoneGroup}
@@ -13,15 +13,16 @@ use Rattle.wire.specs.PhySet.{member, physIn}
 use Rattle.permit.specs.History.{Zone, latest, Says}
 use Rattle.tables.specs.Outcome.{Answer, refusal, answer, Out, out}
 use Rattle.tables.specs.Phys.{phyGroup, emptySet}
+use Rattle.tables.specs.Ports.{samePort}
 use Rattle.links.specs.Links.{linkedAs}
 use Rattle.election.specs.Election.{electedAs, candidates, elected, Greatest}
 use Rattle.opens.specs.declared.Found.the-variants.{At}
 use Rattle.opens.specs.declared.Opened.the-variants.{Forward}
 use Rattle.opens.specs.Search.{search}
 use Rattle.opens.specs.Open.{openedAs, openSource, openOut}
-use Rattle.broadcasts.specs.Broadcasts.{toldAs, frameSource, primitiveOut, broadcastOut}
+use Rattle.broadcasts.specs.Broadcasts.{toldAs, permitted, frameSource, primitiveOut, broadcastOut}
 use Rattle.smp.specs.Smp.{answeredAs, functionOf}
-use Rattle.shelf.specs.Calls.{Call, startUp, primitive, broadcastFrame, smp, outcomeOf, handedIn, answerOf, after, run, orders}
+use Rattle.shelf.specs.Calls.{Call, startUp, leaving, opening, primitive, broadcastFrame, smp, outcomeOf, handedIn, answerOf, after, run, orders}
 
 -- ---- Answers
 
@@ -75,6 +76,52 @@ NoBroadcast =
     → ((source ≡ phyGroup phys phy) × (primitiveOut phys (run (startUp ∷ cs) t) phy number set frame ≡ out (answer v) bs))
     ⊎ ((source ≡ frameSource arrived) × (broadcastOut phys (run (startUp ∷ cs) t) phy arrived set frame ≡ out (answer v) bs))
     → member (getD bs 0 []) i ≡ false
+
+-- ---- Ports: "A port is from now on all ready phys with the same attached address"
+
+-- a primitive, or a broadcast frame, arrived on a phy and was not refused: the source group, and the phy set that the call left (its buffer 0)
+pub data Relayed : List ℕ → List ℕ → ℕ → ℕ → List ℕ → Type 0 where
+  aPrimitive : (phys t : List ℕ) (phy number : ℕ) (set frame v : List ℕ) (bs : List (List ℕ))
+      → outcomeOf (primitive phys phy number set frame) t ≡ out (answer v) bs → Relayed phys t phy (phyGroup phys phy) (getD bs 0 [])
+  aFrame : (phys t : List ℕ) (phy : ℕ) (arrived set frame v : List ℕ) (bs : List (List ℕ))
+      → outcomeOf (broadcastFrame phys phy arrived set frame) t ≡ out (answer v) bs → Relayed phys t phy (frameSource arrived) (getD bs 0 [])
+
+-- every told phy is permitted (ready, and the source group may reach its group) and outside the arriving phy's port
+abbrev pub ToldPermitted : Type 0
+ToldPermitted =
+    (phys t : List ℕ) (phy source : ℕ) (set : List ℕ) → Relayed phys t phy source set
+    → (i : ℕ) → i < 128 → member set i ≡ true → (permitted phys t source i ≡ true) × (samePort phys phy i ≡ false)
+
+-- no two told phys are in one port
+abbrev pub ToldOnce : Type 0
+ToldOnce =
+    (phys t : List ℕ) (phy source : ℕ) (set : List ℕ) → Relayed phys t phy source set
+    → (i j : ℕ) → i < 128 → j < 128 → member set i ≡ true → member set j ≡ true → samePort phys i j ≡ true → i ≡ j
+
+-- phy i's port has a phy in the set, and it is the port's lowest permitted one
+pub record LowestTold (phys t : List ℕ) (source : ℕ) (set : List ℕ) (i : ℕ) : Type 0 where
+  pub at : ℕ
+  pub told : member set at ≡ true
+  pub port : samePort phys at i ≡ true
+  pub lowest : (k : ℕ) → permitted phys t source k ≡ true → samePort phys at k ≡ true → at ≤ k
+
+-- every other port that has a permitted phy has one told, its lowest
+abbrev pub EachPortTold : Type 0
+EachPortTold =
+    (phys t : List ℕ) (phy source : ℕ) (set : List ℕ) → Relayed phys t phy source set
+    → (i : ℕ) → i < 128 → permitted phys t source i ≡ true → samePort phys phy i ≡ false → LowestTold phys t source set i
+
+-- a forwarded OPEN never goes to a phy of the arriving phy's port
+abbrev pub NoReturn : Type 0
+NoReturn =
+    (phys routes t : List ℕ) (phy : ℕ) (frame buffer : List ℕ) (q : PhyNumber)
+    → answerOf (outcomeOf (opening phys routes phy frame buffer) t) ≡ openedAs (Forward q) → samePort phys phy (q .0) ≡ false
+
+-- a phy that leaves ready leaves its port: it is by itself in the phy table that the call leaves (its buffer 0)
+abbrev pub LeavesPort : Type 0
+LeavesPort =
+    (phys t : List ℕ) (phy : ℕ) (v : List ℕ) (bs : List (List ℕ)) → outcomeOf (leaving phys phy) t ≡ out (answer v) bs
+    → (j : ℕ) → samePort (getD bs 0 []) phy j ≡ true → phy ≡ j
 
 -- ---- The count
 

@@ -2,6 +2,7 @@
 
 use crate::open::FRAME;
 use crate::permission::permitted;
+use crate::ports::same_port;
 use crate::refusals::{arriving_phy, ready, refuse_if, room, Refusal};
 use crate::speaking::source_group;
 use crate::tables::{permission_table, phy_table, Group, PhyRecord, Record, Row, GROUPS};
@@ -100,10 +101,21 @@ fn tell(
     out: &mut [u8],
 ) -> u32 {
     let reached = phy_set(phys, |record| permitted(rows, source, record.group));
-    let told = reached & !(1 << arriving);
+    let told = one_of_each_other_port(phys, arriving, reached);
     write_set(told, set);
     write_frame(number, source, out);
     told.count_ones()
+}
+
+/// The lowest permitted phy of each port but the arriving phy's.
+fn one_of_each_other_port(phys: &[Record], arriving: usize, permitted: u128) -> u128 {
+    let is_permitted = |phy: &usize| permitted >> phy & 1 == 1;
+    let has_lower = |phy: usize| (0..phy).filter(is_permitted).any(|lower| same_port(phys, lower, phy));
+    (0..phys.len())
+        .filter(is_permitted)
+        .filter(|&phy| !same_port(phys, arriving, phy))
+        .filter(|&phy| !has_lower(phy))
+        .fold(0, |set, phy| set | 1 << phy)
 }
 
 /// The ready phys that fit, phy i at bit i.

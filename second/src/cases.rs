@@ -3,6 +3,8 @@
 use crate::bench::{self, Event, Rack};
 use crate::{broadcast_frame, elect, identify, leaving, open, primitive, smp, Answered, Elected, Opened, Told};
 
+mod ports;
+
 const CASE_1: [u8; 12] = [0x40, 0xc1, 0, 2, 0, 0, 0x08, 0x89, 0, 0x81, 0, 0];
 
 /// What stands in buffers before a call, to see which bytes stay.

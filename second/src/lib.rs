@@ -1,4 +1,5 @@
-//! The second program: document 01's rules once more, written from its text alone.
+//! The second program: document 01's rules once more, with document 02's request 01 (wide ports), written from their
+//! texts alone.
 //!
 //! There is one public function for each call of `include/shelf.h`, with the same meaning for every input: tables and
 //! buffers come as slices, numbers as `u32`, and the answer is a plain struct with the header's fields.
@@ -8,6 +9,7 @@ pub mod broadcast;
 pub mod links;
 pub mod open;
 pub mod permission;
+pub mod ports;
 pub mod refusals;
 pub mod smp;
 pub mod speaking;

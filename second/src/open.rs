@@ -1,6 +1,7 @@
 //! OPEN.
 
 use crate::permission::permitted;
+use crate::ports::same_port;
 use crate::refusals::{arriving_phy, ready, refuse_if, room, Refusal};
 use crate::speaking::source_group;
 use crate::tables::{permission_table, phy_table, route_table, Group, PhyRecord, Record, RouteRecord};
@@ -65,7 +66,7 @@ fn try_open(
     let Some(found) = search(phys, routes, destination(frame)) else {
         return Ok(Outcome::NoDestination);
     };
-    if found.phy == place {
+    if same_port(phys, place, found.phy) {
         return Ok(Outcome::BadDestination);
     }
     let source = source_group(&arriving, frame[ZONE_BYTE]);

@@ -42,8 +42,8 @@ impl Generator {
             4..=7 => self.identify(),
             8..=9 => self.elect(),
             10..=18 => self.open(),
-            19..=21 => self.primitive(),
-            22..=25 => self.broadcast_frame(),
+            19..=22 => self.primitive(),
+            23..=27 => self.broadcast_frame(),
             _ => self.smp(),
         };
         self.damage(&mut call);
@@ -95,7 +95,10 @@ impl Generator {
 
     fn open(&mut self) -> Call {
         let phy = self.ready_phy();
-        let destination = self.shelf.address(&mut self.random);
+        let destination = match self.random.below(8) {
+            0 => self.shelf.record(phy as usize).address,
+            _ => self.shelf.address(&mut self.random),
+        };
         let mut frame = open_frame(&mut self.random, destination);
         if self.random.percent(8) {
             damage_frame(&mut self.random, &mut frame);
@@ -226,7 +229,13 @@ fn damage_phy(random: &mut Random, call: &mut Call) {
         | Call::Smp { phys, phy, .. } => (phys, phy),
     };
     let count = (phys.len() / 12) as u32;
-    *phy = random.pick(&[count, count + 1, 127, 128, 255, 256, *phy + 256, *phy + 65_536, 1 << 31, u32::MAX]);
+    let [cut_to_8, cut_to_16] = right_where_cut(*phy);
+    *phy = random.pick(&[count, count + 1, 127, 128, 255, 256, cut_to_8, cut_to_16, 1 << 31, u32::MAX]);
+}
+
+/// Numbers that are as before where they are cut to 8 or to 16 bits.
+fn right_where_cut(number: u32) -> [u32; 2] {
+    [256, 65_536].map(|more| number.wrapping_add(more))
 }
 
 fn damage_room(random: &mut Random, call: &mut Call) {
@@ -272,10 +281,12 @@ fn damage_readiness(call: &mut Call) {
 fn damage_number(random: &mut Random, call: &mut Call) {
     match call {
         Call::Primitive { number, .. } => {
-            *number = random.pick(&[8, 9, 15, 16, 128, 255, 256, *number + 256, *number + 65_536, u32::MAX]);
+            let [cut_to_8, cut_to_16] = right_where_cut(*number);
+            *number = random.pick(&[8, 9, 15, 16, 128, 255, 256, cut_to_8, cut_to_16, u32::MAX]);
         }
         Call::Smp { carried, .. } => {
-            *carried = random.pick(&[256, 255, *carried + 256, *carried + 65_536, 1 << 31, u32::MAX]);
+            let [cut_to_8, cut_to_16] = right_where_cut(*carried);
+            *carried = random.pick(&[256, 255, cut_to_8, cut_to_16, 1 << 31, u32::MAX]);
         }
         Call::Open { frame, .. } | Call::BroadcastFrame { frame, .. } => damage_frame(random, frame),
         Call::Identify { address, .. } => address.fill(0),

@@ -45,4 +45,11 @@ impl Random {
     pub fn pick<T: Copy>(&mut self, choices: &[T]) -> T {
         choices[self.below(choices.len())]
     }
+
+    /// Puts things into any order.
+    pub fn shuffle<T>(&mut self, things: &mut [T]) {
+        for place in 1..things.len() {
+            things.swap(place, self.below(place + 1));
+        }
+    }
 }

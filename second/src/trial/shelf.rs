@@ -7,6 +7,7 @@ use crate::permission::may_change_zoning;
 use crate::speaking::source_group;
 use crate::start_up;
 use crate::tables::{permission_table, PhyRecord, Record};
+use std::iter::repeat_n;
 
 pub struct Shelf {
     pub phys: Vec<u8>,
@@ -81,14 +82,22 @@ impl Shelf {
     }
 }
 
-/// A handful of addresses: equal ones, zero, and some that differ in one byte only.
+/// Phy i of a shelf without wide ports has this address and i more, as on the bench rack.
+const BASE: u64 = 0x5000_0000_0000_0010;
+
+/// A handful of addresses: equal ones, zero, some that differ in one byte only, and some that differ in two bytes alike
+/// or have the same bytes in another order.
 fn addresses(random: &mut Random) -> Vec<u64> {
-    let base = 0x5000_0000_0000_0010;
     let mut addresses = vec![0, u64::MAX, 1, 1 << 63];
-    addresses.extend((0..random.between(2, 24)).map(|i| base + i as u64));
+    addresses.extend((0..random.between(2, 24)).map(|i| BASE + i as u64));
     for _ in 0..4 {
         let place = 8 * random.below(8);
-        addresses.push(base ^ u64::from(random.byte()) << place);
+        addresses.push(BASE ^ u64::from(random.byte()) << place);
+    }
+    for _ in 0..2 {
+        let (byte, places) = (u64::from(random.byte()), [0, 1].map(|_| 8 * random.below(8)));
+        addresses.push(BASE ^ byte << places[0] ^ byte << places[1]);
+        addresses.push(BASE.rotate_left(8 * random.between(1, 7) as u32));
     }
     addresses
 }
@@ -104,17 +113,52 @@ fn phys(random: &mut Random, addresses: &[u64]) -> Vec<u8> {
     };
     let ready = random.pick(&[30, 70, 85, 95, 100]);
     let participating = random.pick(&[0, 10, 40, 90]);
-    let distinct = random.percent(50);
+    let alike = random.pick(&[0, 50, 95]);
+    let attached = attached(random, addresses, count);
     let mut table = Vec::with_capacity(count * 12);
-    for phy in 0..count {
-        let address =
-            if distinct && random.percent(90) { 0x5000_0000_0000_0010 + phy as u64 } else { random.pick(addresses) };
-        table.extend(zoning(random, participating));
+    for (phy, &address) in attached.iter().enumerate() {
+        match attached[..phy].iter().rposition(|&other| other == address) {
+            Some(before) if random.percent(alike) => table.extend_from_within(12 * before..12 * before + 2),
+            _ => table.extend(zoning(random, participating)),
+        }
         table.push(u8::from(random.percent(ready)) | u8::from(random.percent(80)) << 1 | reserved(random) & 0xfc);
         table.push(if random.percent(90) { 0 } else { random.byte() });
         table.extend(address.to_be_bytes());
     }
     table
+}
+
+/// The address of each phy: mostly those of wide ports, else each phy's own with a few others among them, or any.
+fn attached(random: &mut Random, addresses: &[u64], count: usize) -> Vec<u64> {
+    match random.below(10) {
+        0..=2 => {
+            let own = |phy| if random.percent(90) { BASE + phy as u64 } else { random.pick(addresses) };
+            (0..count).map(own).collect()
+        }
+        3..=4 => (0..count).map(|_| random.pick(addresses)).collect(),
+        _ => wide_ports(random, addresses, count),
+    }
+}
+
+/// Up to eight phys have one address, or now and then all; they are neighbours or lie anywhere.
+fn wide_ports(random: &mut Random, addresses: &[u64], count: usize) -> Vec<u64> {
+    let widest = random.pick(&[2, 4, 8]);
+    let zero = random.pick(&[0, 10, 40]);
+    let mut attached = Vec::new();
+    while attached.len() < count {
+        let address = match random.below(100) {
+            percent if percent < zero => 0,
+            percent if percent < 70 => BASE + attached.len() as u64,
+            _ => random.pick(addresses),
+        };
+        let width = if random.percent(4) { count } else { random.between(1, widest) };
+        attached.extend(repeat_n(address, width));
+    }
+    attached.truncate(count);
+    if random.percent(60) {
+        random.shuffle(&mut attached);
+    }
+    attached
 }
 
 /// Bytes 0 and 1 of a phy record.

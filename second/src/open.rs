@@ -84,13 +84,13 @@ fn destination(frame: &[u8; FRAME]) -> u64 {
 }
 
 /// Where an address was found: the phy that leads to it and the group that it belongs to.
-struct Found {
-    phy: usize,
-    group: Group,
+pub struct Found {
+    pub phy: usize,
+    pub group: Group,
 }
 
 /// The phy table first, then the route table; an address of zero matches nothing.
-fn search(phys: &[Record], routes: &[Record], address: u64) -> Option<Found> {
+pub fn search(phys: &[Record], routes: &[Record], address: u64) -> Option<Found> {
     if address == 0 {
         return None;
     }

@@ -1,6 +1,7 @@
 //! Which classes of answers a run has reached. A run that never reached one of them has shown nothing about it.
 
 use super::call::{Answer, Call, NAMES};
+use super::ports;
 use crate::permission::may_change_zoning;
 use crate::smp::{CONFIGURE_PHY_ZONE, CONFIGURE_ZONE_PERMISSION, REPORT_ZONE_PERMISSION};
 use crate::speaking::source_group;
@@ -9,7 +10,7 @@ use std::collections::BTreeMap;
 use std::fmt;
 
 /// All classes that a run must reach, by call. Refusal 8 has none: nothing provokes it.
-const REQUIRED: [(&str, &[&str]); 8] = [
+const REQUIRED: [(&str, &[&str]); 12] = [
     ("start_up", &["written", "refused 1"]),
     ("leaving", &["left", "refused 1", "refused 2", "refused 7"]),
     (
@@ -33,6 +34,8 @@ const REQUIRED: [(&str, &[&str]); 8] = [
             "NO DESTINATION, zero",
             "BAD DESTINATION",
             "BAD DESTINATION, by a route",
+            "BAD DESTINATION, sister",
+            "BAD DESTINATION, sister by a route",
             "ZONE VIOLATION",
             "FORWARD to other phys",
             "FORWARD to other phys, by a route",
@@ -99,32 +102,50 @@ const REQUIRED: [(&str, &[&str]); 8] = [
             "refused 7",
         ],
     ),
+    ("open", &ports::OPEN),
+    ("primitive", &ports::BROADCAST),
+    ("broadcast_frame", &ports::BROADCAST),
+    ("smp", &ports::NOTICE),
 ];
 
+/// How many answers were in a class, by the call's place in the header and the class. An answer counts in each of its
+/// classes.
 #[derive(Default)]
 pub struct Coverage(BTreeMap<(usize, &'static str), u64>);
 
 impl Coverage {
     pub fn count(&mut self, call: &Call, answer: &Answer) {
         let place = usize::from(call.parts().place);
-        *self.0.entry((place, class(call, answer))).or_default() += 1;
+        for class in classes(call, answer) {
+            *self.0.entry((place, class)).or_default() += 1;
+        }
     }
 
     /// The classes that were never reached.
     pub fn missing(&self) -> Vec<String> {
-        let all =
-            REQUIRED.iter().enumerate().flat_map(|(place, (_, classes))| classes.iter().map(move |c| (place, *c)));
-        all.filter(|key| !self.0.contains_key(key)).map(|(place, class)| format!("{}: {class}", NAMES[place])).collect()
+        let place = |name| NAMES.iter().position(|known| *known == name).expect("a call's name");
+        let all = REQUIRED.iter().flat_map(|(name, classes)| classes.iter().map(move |class| (*name, *class)));
+        let missing = all.filter(|&(name, class)| !self.0.contains_key(&(place(name), class)));
+        missing.map(|(name, class)| format!("{name}: {class}")).collect()
     }
 }
 
 impl fmt::Display for Coverage {
     fn fmt(&self, f: &mut fmt::Formatter) -> fmt::Result {
         for ((place, class), count) in &self.0 {
-            writeln!(f, "{:16} {class:44} {count:9}", NAMES[*place])?;
+            writeln!(f, "{:16} {class:47} {count:9}", NAMES[*place])?;
         }
         Ok(())
     }
+}
+
+/// One class by what became of the call, and others by the ports in its answer.
+fn classes(call: &Call, answer: &Answer) -> Vec<&'static str> {
+    let mut classes = vec![class(call, answer)];
+    if answer.refusal() == 0 {
+        classes.extend(ports::classes(call, answer));
+    }
+    classes
 }
 
 fn class(call: &Call, answer: &Answer) -> &'static str {
@@ -150,7 +171,7 @@ fn answered(call: &Call, answer: &Answer) -> &'static str {
         Call::Leaving { .. } => "left",
         Call::Identify { phys, phy, address } => identified(record(phys, *phy), address),
         Call::Elect { phys, .. } => elected(phys, answer),
-        Call::Open { phys, phy, frame, .. } => opened(phys, *phy, frame, answer),
+        Call::Open { phys, routes, phy, frame, .. } => opened(phys, routes, *phy, frame, answer),
         Call::Primitive { .. } if some => "some told",
         Call::Primitive { .. } => "none told",
         Call::BroadcastFrame { frame, .. } if frame[0] & 0x0f == 2 => "type 2h",
@@ -189,16 +210,31 @@ fn elected(phys: &[u8], answer: &Answer) -> &'static str {
     }
 }
 
-fn opened(phys: &[u8], phy: u32, frame: &[u8], answer: &Answer) -> &'static str {
+fn opened(phys: &[u8], routes: &[u8], phy: u32, frame: &[u8], answer: &Answer) -> &'static str {
     // Where the phy that was found has another address attached, a route led there.
     let by_route = |found| record(phys, found).address.to_be_bytes() != frame[4..12];
     match answer.fields[1] {
         1 if frame[4..12] == [0; 8] => "NO DESTINATION, zero",
         1 => "NO DESTINATION",
-        2 if by_route(phy) => "BAD DESTINATION, by a route",
-        2 => "BAD DESTINATION",
+        2 => bad_destination(is_found(phys, routes, phy, frame), by_route(phy)),
         3 => "ZONE VIOLATION",
         _ => forwarded(record(phys, phy), record(phys, answer.fields[2] as u32), by_route(answer.fields[2] as u32)),
+    }
+}
+
+/// Whether the search ends at this phy.
+fn is_found(phys: &[u8], routes: &[u8], phy: u32, frame: &[u8]) -> bool {
+    let found = ports::found(phys.as_chunks().0, routes.as_chunks().0, frame);
+    found.is_some_and(|found| found.phy == phy as usize)
+}
+
+/// The arriving phy itself was found or a sister, which has the same address attached.
+fn bad_destination(itself: bool, by_route: bool) -> &'static str {
+    match (itself, by_route) {
+        (true, true) => "BAD DESTINATION, by a route",
+        (true, false) => "BAD DESTINATION",
+        (false, true) => "BAD DESTINATION, sister by a route",
+        (false, false) => "BAD DESTINATION, sister",
     }
 }
 
@@ -264,5 +300,40 @@ fn reported(answer: &Answer, result: u64) -> &'static str {
         (3, _) => "51h 03h",
         (0x11, _) => "51h 11h",
         _ => "51h another result",
+    }
+}
+
+#[cfg(test)]
+mod tests {
+    use super::super::generate::Generator;
+    use super::*;
+    use crate::bench::Rack;
+
+    #[test]
+    fn an_answer_is_in_several_classes() {
+        // Phys 3, 4 and 5 have one address; group 8 of the arriving phy reaches group 9 of phys 4 and 5, not its own.
+        let Rack { mut phys, mut permissions } = Rack::default();
+        for phy in [3, 4, 5] {
+            phys[12 * phy + 11] = 0x13;
+        }
+        permissions[16 * 8 + 14] |= 1 << 1;
+        let call = Call::Primitive { phys, permissions, phy: 2, number: 0, set: vec![0; 16], out: vec![0; 28] };
+        let answer = call.model();
+        assert_eq!(answer.buffers[0][0], 0x91);
+        let expected = ["some told", "one of two permitted sisters told", "told, a lower ready sister not permitted"];
+        assert_eq!(classes(&call, &answer), expected);
+    }
+
+    #[test]
+    fn the_generator_reaches_every_class() {
+        let mut generator = Generator::new(1);
+        let mut coverage = Coverage::default();
+        for _ in 0..30_000 {
+            let call = generator.call();
+            let answer = call.model();
+            generator.keep(&call, &answer);
+            coverage.count(&call, &answer);
+        }
+        assert_eq!(coverage.missing(), Vec::<String>::new());
     }
 }

@@ -4,6 +4,7 @@ pub mod call;
 pub mod coverage;
 pub mod events;
 pub mod generate;
+pub mod ports;
 pub mod random;
 pub mod requests;
 pub mod shelf;

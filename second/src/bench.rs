@@ -50,7 +50,7 @@ pub struct Event<'a> {
 
 impl<'a> Event<'a> {
     /// The event at the front of the input and the input after it; nothing where the event is cut off.
-    fn take(input: &'a [u8]) -> Option<(Event<'a>, &'a [u8])> {
+    pub fn take(input: &'a [u8]) -> Option<(Event<'a>, &'a [u8])> {
         let (&[kind, phy, carried, high, low], rest) = input.split_first_chunk()?;
         let length = usize::from(u16::from_be_bytes([high, low]));
         let (payload, rest) = rest.split_at_checked(length)?;

@@ -2,8 +2,8 @@
 //!
 //! streams BENCH-COMMAND [STREAMS] [SEED]
 //!
-//! The fixed streams (document 01's cases, all their beginnings, and edges) come first, then so many random ones. Exits
-//! with 0 where all texts were equal and every kind of line was printed.
+//! The fixed streams (document 01's cases, all their beginnings, wide ports, and edges) come first, then so many random
+//! ones. Exits with 0 where all texts were equal and every kind of line was printed.
 
 use second::bench::{self, Event};
 use second::trial::events::{damage, stream};
@@ -165,7 +165,36 @@ fn cases_6_to_12() -> Vec<(&'static str, Vec<u8>)> {
 fn aftermath() -> Vec<u8> {
     let opens = (0..8).flat_map(|from| (0..8).map(move |to| event(2, from, &open_to(to))));
     let primitives = (0..8).map(|phy| event(3, phy, &[phy]));
-    opens.chain(primitives).flatten().collect()
+    let frames = [0, 1, 2, 8, 9].map(|group| event(4, 7, &[0x03, 0, 0, group]));
+    opens.chain(primitives).chain(frames).flatten().collect()
+}
+
+/// These phys leave and come back with phy `to`'s address; then phy 0 gives each its bytes 0 and 1 again.
+fn attach(to: u8, phys: &[(u8, [u8; 2])]) -> Vec<u8> {
+    let one = |&(phy, [zoning, group]): &(u8, [u8; 2])| {
+        let zone = [0x40, 0x93, 0, 2, 0, 0, phy, 1, zoning, group, 0, 0];
+        [event(6, phy, &[]), event(5, phy, &[0x50, 0, 0, 0, 0, 0, 0, 0x10 + to]), event(1, 0, &zone)].concat()
+    };
+    phys.iter().flat_map(one).collect()
+}
+
+/// Racks with wide ports.
+fn wide_ports() -> Vec<(&'static str, Vec<u8>)> {
+    let (g2, g8, g9) = ([0, 2], [0, 8], [0, 9]);
+    let on = event(1, 0, &SINGLE);
+    let mixed = [on.clone(), attach(3, &[(4, g9), (5, g9)])].concat();
+    vec![
+        ("two sisters", attach(2, &[(3, g8)])),
+        ("two sisters, the higher one named first", attach(5, &[(4, g9)])),
+        ("two sisters, the lower one not ready", [attach(2, &[(3, g8)]), event(6, 2, &[])].concat()),
+        ("sisters without zoning", [event(6, 3, &[]), event(5, 3, &open_to(2)[4..12])].concat()),
+        ("sisters of two groups", mixed.clone()),
+        ("sisters of two groups, one not ready", [mixed, event(6, 4, &[])].concat()),
+        ("two wide ports", [on.clone(), attach(2, &[(3, g8)]), attach(4, &[(5, g9)])].concat()),
+        ("sisters of the participating phy", [on.clone(), attach(7, &[(3, g8), (4, g9)])].concat()),
+        ("sisters of phy 0", [on.clone(), attach(0, &[(1, g2), (4, g9), (7, [0x10, 1])])].concat()),
+        ("one port", [on, attach(0, &[1, 2, 3, 4, 5, 6, 7].map(|phy| (phy, [0x10, 1])))].concat()),
+    ]
 }
 
 fn fixed() -> Vec<Trial> {
@@ -175,6 +204,9 @@ fn fixed() -> Vec<Trial> {
     trials.extend((1..=cases.len()).map(|cut| trial(&format!("cases 1 to 5, {cut} bytes"), cases[..cut].to_vec())));
     for (name, request) in cases_6_to_12() {
         trials.push(trial(name, [event(1, 0, &request), aftermath()].concat()));
+    }
+    for (name, events) in wide_ports() {
+        trials.push(trial(name, [events, aftermath()].concat()));
     }
     for kind in [0, 3, 5, 6, 7, 255] {
         let lengths = [0, 1, 2, 7, 8, 9].map(|length| event(kind, 1, &vec![1; length]));

@@ -2,7 +2,7 @@
 
 use super::random::Random;
 use super::requests::{broadcast_frame, damage_frame, group_byte, open_frame, request};
-use super::shelf::Shelf;
+use super::shelf::{Shelf, BASE};
 use crate::bench::{Event, Rack, BROADCAST_FRAME, IDENTIFY, LEAVING, OPEN, PRIMITIVE, SMP};
 
 /// A stream of so many events on a rack that they change, most of them good.
@@ -36,7 +36,7 @@ fn event(random: &mut Random, shelf: &Shelf) -> (u8, u8, u8, Vec<u8>) {
             let (phy, carried) = shelf.speaker(random);
             return (SMP, unlikely_phy(random, phy), carried, request(random, shelf.count()));
         }
-        15..=22 => (OPEN, ready_phy(random, shelf), open_payload(random, shelf)),
+        15..=22 => open(random, shelf),
         23..=26 => (PRIMITIVE, ready_phy(random, shelf), vec![primitive_number(random)]),
         27..=30 => broadcast(random, shelf),
         31..=34 => identify(random, shelf),
@@ -71,9 +71,11 @@ fn primitive_number(random: &mut Random) -> u8 {
     }
 }
 
-fn open_payload(random: &mut Random, shelf: &Shelf) -> Vec<u8> {
-    let destination = shelf.address(random);
-    open_frame(random, destination)
+/// Mostly to an address that is found, at times to the arriving phy's own.
+fn open(random: &mut Random, shelf: &Shelf) -> (u8, usize, Vec<u8>) {
+    let phy = ready_phy(random, shelf);
+    let destination = if random.percent(15) { shelf.record(phy).address } else { shelf.address(random) };
+    (OPEN, phy, open_frame(random, destination))
 }
 
 fn broadcast(random: &mut Random, shelf: &Shelf) -> (u8, usize, Vec<u8>) {
@@ -85,9 +87,19 @@ fn broadcast(random: &mut Random, shelf: &Shelf) -> (u8, usize, Vec<u8>) {
     (BROADCAST_FRAME, phy, frame)
 }
 
+/// An address that other phys have as well makes a wide port, the one on the untouched rack takes a phy out of it again. But
+/// another address than before takes the phy's zoning away: phys in group 1 mostly keep theirs, or soon nobody may zone.
 fn identify(random: &mut Random, shelf: &Shelf) -> (u8, usize, Vec<u8>) {
     let phy = shelf.phy(random, |record| !record.ready);
-    let address = if random.percent(85) { shelf.record(phy).address } else { shelf.address(random) };
+    let before = shelf.record(phy);
+    let keep = if before.group.number() == 1 { 85 } else { 40 };
+    let address = if random.percent(keep) {
+        before.address
+    } else if random.percent(25) {
+        BASE + phy as u64
+    } else {
+        shelf.address(random)
+    };
     (IDENTIFY, phy, address.to_be_bytes().to_vec())
 }
 
@@ -110,4 +122,36 @@ fn any_payload(random: &mut Random) -> Vec<u8> {
         _ => random.below(40),
     };
     random.bytes(length)
+}
+
+#[cfg(test)]
+mod tests {
+    use super::*;
+    use crate::ports::same_port;
+
+    fn has_wide_port(rack: &Rack) -> bool {
+        let phys = rack.phys.as_chunks().0;
+        (0..8).any(|a| (0..a).any(|b| same_port(phys, a, b)))
+    }
+
+    #[test]
+    fn most_frames_arrive_where_a_port_is_wide() {
+        let mut random = Random::new(1);
+        let streams: Vec<_> = (0..20).map(|_| stream(&mut random, 200)).collect();
+        let (mut opens, mut broadcasts) = ([0; 2], [0; 2]);
+        for stream in streams {
+            let (mut rack, mut left) = (Rack::default(), stream.as_slice());
+            while let Some((event, after)) = Event::take(left) {
+                let wide = usize::from(has_wide_port(&rack));
+                match rack.line(&event).as_bytes()[0] {
+                    b'O' => opens[wide] += 1,
+                    b'B' => broadcasts[wide] += 1,
+                    _ => {}
+                }
+                left = after;
+            }
+        }
+        assert!(opens[1] > opens[0], "{opens:?} OPENs without and with a wide port");
+        assert!(broadcasts[1] > broadcasts[0], "{broadcasts:?} broadcasts without and with a wide port");
+    }
 }

@@ -83,7 +83,7 @@ impl Shelf {
 }
 
 /// Phy i of a shelf without wide ports has this address and i more, as on the bench rack.
-const BASE: u64 = 0x5000_0000_0000_0010;
+pub const BASE: u64 = 0x5000_0000_0000_0010;
 
 /// A handful of addresses: equal ones, zero, some that differ in one byte only, and some that differ in two bytes alike
 /// or have the same bytes in another order.

@@ -52,4 +52,25 @@ plant '51h: one row short at the end' smp.rs 'min(GROUPS - start)' 'min(GROUPS -
 plant 'election: the least wins' links.rs 'address != 0)\.max()' 'address != 0).min()'
 plant 'length checked before readiness' smp.rs 'let arriving = ready' \
     'refuse_if(request.len() < HEADER, Refusal::Length)?; let arriving = ready'
+plant 'ports: zero addresses are one port' ports.rs ' && a.address != 0' ''
+plant 'ports: all but the last byte of an address' ports.rs 'a.address == b.address' 'a.address >> 8 == b.address >> 8'
+plant 'ports: sisters have one group' ports.rs 'a.address == b.address' '(a.address, a.group) == (b.address, b.group)'
+plant 'ports: an address that is not known does not count' ports.rs 'a.ready && b.ready' 'a.address_known \&\& b.address_known'
+plant 'a broadcast: the highest named' broadcast.rs '(0\.\.phy)' '(phy + 1..phys.len())'
+plant 'a broadcast: the lowest ready phy named though not permitted' broadcast.rs 'set | 1 << phy' \
+    'set | 1 << (0..phy).find(|\&lower| same_port(phys, lower, phy)).unwrap_or(phy)'
+plant 'a broadcast: none named where the lowest ready phy is not permitted' broadcast.rs \
+    '\.filter(is_permitted)\.any(' '.any('
+plant 'a broadcast: a phy that is not ready stands for its port' broadcast.rs \
+    '\.filter(is_permitted)\.any(|lower| same_port(phys, lower, phy))' \
+    '.any(|lower| phys[lower][4..] == phys[phy][4..] \&\& phys[phy][4..] != [0; 8] \&\& (is_permitted(\&lower) || phys[lower][2] \& 1 == 0))'
+plant 'a broadcast: all permitted phys of a port named' broadcast.rs '!has_lower(phy)' 'true'
+plant "a broadcast: the arriving phy's port told" broadcast.rs '!same_port(phys, arriving, phy)' 'phy != arriving'
+plant 'OPEN: forwarded to a sister' open.rs 'same_port(phys, place, found.phy)' 'place == found.phy'
+plant 'OPEN: a sister counts only in the phy table' open.rs 'same_port(phys, place, found.phy)' \
+    'place == found.phy || arriving.address == destination(frame)'
+plant 'OPEN: ZONE VIOLATION before BAD DESTINATION' open.rs 'same_port(phys, place, found.phy)' \
+    'same_port(phys, place, found.phy) \&\& permitted(rows, source_group(\&arriving, frame[ZONE_BYTE]), found.group)'
+plant 'a change notice: one phy of each port' smp.rs 'phy_set(phys, |_| true)' \
+    'phy_set(phys, |_| true) \& !(0..phys.len()).filter(|\&phy| (0..phy).any(|lower| crate::ports::same_port(phys, lower, phy))).fold(0, |set, phy| set | 1 << phy)'
 exit $missed

@@ -33,16 +33,18 @@ impl From<Result<u32, Refusal>> for Told {
 
 /// A broadcast primitive arrives.
 pub fn primitive(phys: &[u8], permissions: &[u8], phy: u32, number: u32, set: &mut [u8], out: &mut [u8]) -> Told {
-    try_primitive(phys, permissions, phy, number, set, out).into()
+    try_primitive(phys, permissions, phy, number, set, out, one_of_each_other_port).into()
 }
 
-fn try_primitive(
+/// `told` says who is told: the rule as it is read, or, where the time counts, another way to the same phys.
+pub(crate) fn try_primitive(
     phys: &[u8],
     permissions: &[u8],
     phy: u32,
     number: u32,
     set: &mut [u8],
     out: &mut [u8],
+    told: impl Fn(&[Record], &[Row; GROUPS], usize, Group) -> u128,
 ) -> Result<u32, Refusal> {
     let (phys, rows) = (phy_table(phys)?, permission_table(permissions)?);
     let place = arriving_phy(phys, phy)?;
@@ -50,7 +52,7 @@ fn try_primitive(
     room(out, FRAME)?;
     let arriving = ready(&phys[place])?;
     refuse_if(number > HIGHEST_NUMBER, Refusal::Kind)?;
-    Ok(tell(phys, rows, place, arriving.group, number as u8, set, out))
+    Ok(tell(told(phys, rows, place, arriving.group), arriving.group, number as u8, set, out))
 }
 
 /// A broadcast frame arrives.
@@ -87,29 +89,20 @@ fn try_broadcast_frame(
     refuse_if(!arriving.participating, Refusal::NotParticipating)?;
     let number = frame[0] >> 4 & 0x7;
     let source = source_group(&arriving, frame[GROUP_BYTE]);
-    Ok(tell(phys, rows, place, source, number, set, out))
+    Ok(tell(one_of_each_other_port(phys, rows, place, source), source, number, set, out))
 }
 
 /// Writes the set and the frame for participating phys; answers how many phys are told.
-fn tell(
-    phys: &[Record],
-    rows: &[Row; GROUPS],
-    arriving: usize,
-    source: Group,
-    number: u8,
-    set: &mut [u8],
-    out: &mut [u8],
-) -> u32 {
-    let reached = phy_set(phys, |record| permitted(rows, source, record.group));
-    let told = one_of_each_other_port(phys, arriving, reached);
+fn tell(told: u128, source: Group, number: u8, set: &mut [u8], out: &mut [u8]) -> u32 {
     write_set(told, set);
     write_frame(number, source, out);
     told.count_ones()
 }
 
 /// The lowest permitted phy of each port but the arriving phy's.
-fn one_of_each_other_port(phys: &[Record], arriving: usize, permitted: u128) -> u128 {
-    let is_permitted = |phy: &usize| permitted >> phy & 1 == 1;
+fn one_of_each_other_port(phys: &[Record], rows: &[Row; GROUPS], arriving: usize, source: Group) -> u128 {
+    let reached = phy_set(phys, |record| permitted(rows, source, record.group));
+    let is_permitted = |phy: &usize| reached >> phy & 1 == 1;
     let has_lower = |phy: usize| (0..phy).filter(is_permitted).any(|lower| same_port(phys, lower, phy));
     (0..phys.len())
         .filter(is_permitted)

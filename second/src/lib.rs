@@ -6,6 +6,7 @@
 
 pub mod bench;
 pub mod broadcast;
+pub mod chains;
 pub mod links;
 pub mod open;
 pub mod permission;

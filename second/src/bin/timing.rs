@@ -3,7 +3,9 @@
 //! Both are called in alternating rounds; a time is the median of all rounds' times for one call. Before a case is timed,
 //! both must give the same answer and leave the same bytes behind.
 
+use second::chains::slot_of;
 use second::trial::random::Random;
+use second::Told;
 use std::hint::black_box;
 use std::time::Instant;
 
@@ -241,10 +243,19 @@ const OPEN: Pair = pair!(lent, open, {
     [opened.refusal.into(), opened.outcome.into(), opened.phy.into(), 0]
 });
 
-const PRIMITIVE: Pair = pair!(lent, primitive, {
+/// Beside the same chains in plain Rust.
+const PRIMITIVE: Pair =
+    Pair { rattle: |lent| tell(lent, library::primitive), rust: |lent| tell(lent, second::chains::primitive) };
+
+/// Beside the model, which reads the rule as it stands: each phy is compared with all that are lower.
+const PRIMITIVE_AS_READ: Pair =
+    Pair { rattle: |lent| tell(lent, library::primitive), rust: |lent| tell(lent, second::primitive) };
+
+#[inline]
+fn tell(lent: &mut Lent, primitive: impl Fn(&[u8], &[u8], u32, u32, &mut [u8], &mut [u8]) -> Told) -> [u64; 4] {
     let told = primitive(&lent.phys, &lent.permissions, ARRIVING, 0, &mut lent.set, &mut lent.out);
     [told.refusal.into(), told.count.into(), 0, 0]
-});
+}
 
 const SMP: Pair = pair!(lent, smp, {
     let Lent { phys, permissions, message, response, set, .. } = lent;
@@ -296,6 +307,31 @@ fn open_to(mut lent: Lent, destination: usize) -> Lent {
     }
     lent.message = vec![0x01; 28];
     lent.message[4..12].copy_from_slice(&address(destination));
+    lent
+}
+
+/// Ports of so many phys each, side by side, whose addresses are one maker's and in no order.
+fn ports_of(mut lent: Lent, width: usize) -> Lent {
+    let mut random = Random::new(3);
+    for port in lent.phys.as_chunks_mut::<12>().0.chunks_mut(width) {
+        let address = 0x5000_c500_0000_0000 | random.number() >> 24;
+        port.iter_mut().for_each(|record| record[4..].copy_from_slice(&address.to_be_bytes()));
+    }
+    lent
+}
+
+/// No phy has an address, so each is a port by itself.
+fn no_addresses(mut lent: Lent) -> Lent {
+    lent.phys.as_chunks_mut::<12>().0.iter_mut().for_each(|record| record[4..].fill(0));
+    lent
+}
+
+/// The worst that addresses can do: all are different and go to one slot, so each phy is compared with all that are lower.
+fn one_slot(mut lent: Lent) -> Lent {
+    let mut addresses = (0x5000_c500_0000_0000..).filter(|&address: &u64| slot_of(address) == 7);
+    for record in lent.phys.as_chunks_mut::<12>().0 {
+        record[4..].copy_from_slice(&addresses.next().unwrap().to_be_bytes());
+    }
     lent
 }
 
@@ -380,8 +416,12 @@ fn hardest() -> Vec<Row> {
     vec![
         case("OPEN, 128 phys, 1,024 routes, the last fits", OPEN, open_to(full(), 128 + 1023), Runs::Many),
         case("OPEN, 128 phys, 1,024 routes, none fits", OPEN, open_to(full(), NOWHERE), Runs::Many),
-        case("primitive, 128 phys, all told", PRIMITIVE, full(), Runs::Many),
-        case("primitive, 128 phys, half told", PRIMITIVE, half_told(full()), Runs::Many),
+        case("primitive, 128 phys and ports, all told", PRIMITIVE, ports_of(full(), 1), Runs::Many),
+        case("primitive, 128 phys and ports, half told", PRIMITIVE, half_told(ports_of(full(), 1)), Runs::Many),
+        case("primitive, 128 phys in 32 ports", PRIMITIVE, ports_of(full(), 4), Runs::Many),
+        case("primitive, 128 phys, no addresses", PRIMITIVE, no_addresses(full()), Runs::Many),
+        case("primitive, 128 phys and ports, one slot", PRIMITIVE, one_slot(full()), Runs::Many),
+        case("primitive, 128 phys and ports, beside the model", PRIMITIVE_AS_READ, ports_of(full(), 1), Runs::Many),
         case("C1h single", SMP, single(full()), Runs::Many),
         case("C1h batch of 63 rows", SMP, batch(full(), 63), Runs::Many),
         case("93h of 128 descriptors", SMP, configure_phys(full(), 128), Runs::Many),
@@ -404,7 +444,8 @@ fn growth() -> Vec<Row> {
         rows.push(case(&format!("OPEN, 128 phys, {routes} routes, none fits"), OPEN, lent, Runs::Many));
     }
     for phys in [8, 32, 128] {
-        rows.push(case(&format!("primitive, {phys} phys"), PRIMITIVE, shelf(phys, 0), Runs::Many));
+        let lent = ports_of(shelf(phys, 0), 1);
+        rows.push(case(&format!("primitive, {phys} phys and ports"), PRIMITIVE, lent, Runs::Many));
     }
     for k in [1, 4, 16, 63] {
         rows.push(case(&format!("C1h batch, rows {k}"), SMP, batch(shelf(128, 0), k), Runs::Many));

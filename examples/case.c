@@ -1,4 +1,4 @@
-/* Cases 1 and 2 of the scope document on the bench rack, through shelf.h. The output is in case.txt. */
+/* Cases 1 and 2 of the scope document on the bench rack, and then a port of two phys, through shelf.h. The output is in case.txt. */
 #include <shelf.h>
 
 #include <stdio.h>
@@ -26,12 +26,16 @@ static int permitted(int a, int b) {
     return permissions[16 * a + 15 - b / 8] >> (b % 8) & 1;
 }
 
-static void open_from_2_to_4(void) {
+static const uint8_t *address_of(int phy) {
+    return phys + RECORD * phy + 4;
+}
+
+static void open_to(unsigned from, int to) {
     uint8_t frame[28] = {0x01}, out[28];
-    memcpy(frame + 4, phys + 4 * RECORD + 4, 8);
-    struct shelf_opened opened = shelf_open(phys, sizeof phys, no_routes, 0, permissions, sizeof permissions, 2, frame,
+    memcpy(frame + 4, address_of(to), 8);
+    struct shelf_opened opened = shelf_open(phys, sizeof phys, no_routes, 0, permissions, sizeof permissions, from, frame,
                                             sizeof frame, out, sizeof out);
-    printf("OPEN from phy 2 to phy 4: refusal %u, ", opened.refusal);
+    printf("OPEN from phy %u to phy %d: refusal %u, ", from, to, opened.refusal);
     if (opened.outcome == SHELF_FORWARD)
         printf("forward on phy %u, byte 20 is %02X\n", opened.phy, out[20]);
     else
@@ -54,13 +58,35 @@ static void permissions_of_8_and_9(void) {
     printf("permitted: (8,9) %d, (9,8) %d\n", permitted(8, 9), permitted(9, 8));
 }
 
+/* Phy 3 comes up again with phy 2's address: the two are one port. */
+static void make_sisters(void) {
+    uint8_t address[8];
+    memcpy(address, address_of(2), 8);
+    printf("phy 3 leaves: refusal %u\n", shelf_leaving(phys, sizeof phys, 3));
+    printf("IDENTIFY on phy 3 with phy 2's address: refusal %u\n", shelf_identify(phys, sizeof phys, 3, address, 8));
+}
+
+static void change_on_0(void) {
+    uint8_t set[16], out[28];
+    struct shelf_told told = shelf_primitive(phys, sizeof phys, permissions, sizeof permissions, 0, 0, set, sizeof set, out,
+                                             sizeof out);
+    printf("primitive on phy 0: refusal %u, %u phys told", told.refusal, told.count);
+    if (told.refusal == 0)
+        printf(", set byte 0 is %02X", set[0]);
+    printf("\n");
+}
+
 int main(void) {
     bench_rack();
     printf("start-up: refusal %u\n", shelf_start_up(permissions, sizeof permissions));
     permissions_of_8_and_9();
-    open_from_2_to_4();
+    open_to(2, 4);
     switch_on_8_and_9();
     permissions_of_8_and_9();
-    open_from_2_to_4();
+    open_to(2, 4);
+    change_on_0();
+    make_sisters();
+    change_on_0();
+    open_to(3, 2);
     return 0;
 }

@@ -14,6 +14,9 @@
  *
  * Sizes: phys 1 to 128 records of 12 bytes; routes 0 to 1,024 records of 12 bytes; permissions 2,048 bytes.
  *
+ * Ports: all ready phys with the same attached address are one port, by the phy table as it is at the call; a phy whose address is
+ * zero is a port by itself.
+ *
  * The archive is code and constants alone. It calls nothing outside itself and has no variables: no C library, no heap, no
  * globals. All that a call knows is in its arguments, so calls may run at once, on several cores or one interrupting another,
  * where no buffer that one of them takes as not const overlaps a buffer of another. Calls that only read may share their tables;
@@ -71,13 +74,14 @@ uint32_t shelf_identify(uint8_t *phys, size_t phys_len, uint32_t phy, const uint
 struct shelf_elected shelf_elect(const uint8_t *phys, size_t phys_len, const uint8_t *routes, size_t routes_len);
 
 /* An OPEN frame arrives. Refusals: 1, 2, 3 (out_len under 28), 7, 4, 5. Writes the first 28 bytes of out, and only where the
- * outcome is SHELF_FORWARD. */
+ * outcome is SHELF_FORWARD. The outcome is SHELF_BAD_DESTINATION where the phy found is in the arriving phy's port. */
 struct shelf_opened shelf_open(const uint8_t *phys, size_t phys_len, const uint8_t *routes, size_t routes_len,
                                const uint8_t *permissions, size_t permissions_len, uint32_t phy, const uint8_t *frame,
                                size_t frame_len, uint8_t *out, size_t out_len);
 
 /* A broadcast primitive arrives. Refusals: 1, 2, 3 (set_len under 16 or out_len under 28), 7, 5. Writes the first 16 bytes of
- * set and the first 28 of out, the frame for participating phys. */
+ * set and the first 28 of out, the frame for participating phys. The set has, of each port but the arriving phy's, the lowest phy
+ * whose group the source group may reach. */
 struct shelf_told shelf_primitive(const uint8_t *phys, size_t phys_len, const uint8_t *permissions, size_t permissions_len,
                                   uint32_t phy, uint32_t number, uint8_t *set, size_t set_len, uint8_t *out, size_t out_len);
 
@@ -89,7 +93,7 @@ struct shelf_told shelf_broadcast_frame(const uint8_t *phys, size_t phys_len, co
 /* An SMP request arrives; carried is the byte that the caller took from the connection's OPEN. Refusals: 1, 2, 3 (response_len
  * under 1,020 or set_len under 16), 7, 4, 5, 8. Writes the first length bytes of response and the first 16 of set; where result
  * is 0 and the function is 93h also bytes 0 and 1 of the records named, and where it is C1h also permissions. Where result is not 0
- * length is 4 and the 16 bytes of set are zero. */
+ * length is 4 and the 16 bytes of set are zero. A change notice (93h, C1h) goes to all ready phys, whatever their ports. */
 struct shelf_answered shelf_smp(uint8_t *phys, size_t phys_len, uint8_t *permissions, size_t permissions_len, uint32_t phy,
                                 uint32_t carried, const uint8_t *request, size_t request_len, uint8_t *response,
                                 size_t response_len, uint8_t *set, size_t set_len);

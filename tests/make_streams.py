@@ -246,6 +246,46 @@ STREAMS = {
         (frame(7, 0x02, 1), 'X 6'),
         (open_to(0, UNZONED), 'O FWD 4'),  # of two phys with one address the lower
     ],
+    # from here to the cut ones: phys that share an address are one port
+    'sisters_open': [
+        (leaving(3), 'L'),
+        (identify(3, address(2)), 'L'),  # phys 2 and 3 are one port; phy 3 is of group 0
+        (open_to(3, address(2)), 'O BD'),  # phy 2 is found, a sister
+        (open_to(2, address(2)), 'O BD'),
+        (open_to(0, address(2)), 'O FWD 2'),
+        (open_to(0, address(3)), 'O ND'),
+        (leaving(2), 'L'),
+        (open_to(3, address(2)), 'O BD'),  # phy 3 itself is found
+        (open_to(0, address(2)), 'O FWD 3'),
+        (identify(2, address(2)), 'L'),
+        (open_to(3, address(2)), 'O BD'),
+        (leaving(3), 'L'),
+        (identify(3, address(3)), 'L'),  # phy 3 has left the port
+        (open_to(3, address(2)), 'O ZV'),
+    ],
+    'sisters_told_once': [
+        (primitive(0, 0), 'B 7'),
+        (leaving(3), 'L'),
+        (identify(3, address(2)), 'L'),  # phys 2 (group 8) and 3 (group 0) are one port
+        (primitive(0, 0), 'B 6'),  # 1, 2, 4, 5, 6, 7
+        (primitive(2, 0), 'B 2'),  # 0, 7
+        (smp(0, phy_zone(3, (0, 1))), 'S 00 4 8'),  # a change notice goes to sisters too
+        (primitive(4, 0), 'B 3'),  # 0, 3, 7: phy 2 is lower and ready, but not permitted
+        (smp(0, single(9, ON + 8)), 'S 00 4 8'),
+        (primitive(4, 0), 'B 3'),  # 0, 2, 7
+        (leaving(2), 'L'),
+        (primitive(4, 0), 'B 3'),  # 0, 3, 7
+        (identify(2, address(2)), 'L'),  # the same address: still of group 8
+        (primitive(2, 0), 'B 4'),  # 0, 4, 5, 7: phy 3 is permitted, but a sister of the arriving phy
+        (primitive(3, 0), 'B 6'),  # all but the port: 0, 1, 4, 5, 6, 7
+        (frame(7, 0x02, 1), 'B 6'),  # 0, 1, 2, 4, 5, 6
+        (frame(7, 0x03, 8, length=4), 'B 4'),  # 0, 3, 4, 5: group 8 does not reach itself
+        (leaving(5), 'L'),
+        (identify(5, address(2)), 'L'),  # three phys in the port
+        (primitive(0, 0), 'B 5'),  # 1, 2, 4, 6, 7
+        (primitive(5, 0), 'B 2'),  # of group 0: 0, 7
+        (smp(0, phy_zone(0)), 'S 00 4 8'),
+    ],
     'cut_header_1': [(bytes([LEAVING]), 'T')],
     'cut_header_4': [(leaving(2), 'L'), (bytes([9, 0, 0, 0]), 'T')],
     'cut_payload': [(primitive(0, 0), 'B 7'), (primitive(0, 0)[:-1], 'T')],

@@ -1,7 +1,7 @@
 -- What `told` comes to: the permitted phys outside the arriving port, of each port the lowest, and no other; and the set of them.
 -- Assumes nothing.
 use mathlib.Core.Path.{_≡_, refl, sym, ap, _∙_}
-use mathlib.Core.Bool.{Bool, true, false, not, _&&_, _||_, and-false, and-true}
+use mathlib.Core.Bool.{Bool, true, false, not, _||_, and-false, and-true}
 use mathlib.Core.List.{List}
 use Prim.Native.Nat.{ℕ, zero, suc, _%_, _≤_, _<_}
 use native.Mathlib.Decide.{ℕ-discrete, decLt}

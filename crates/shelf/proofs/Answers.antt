@@ -2,14 +2,13 @@
 -- answer tells of the judgement.
 -- Assumes nothing.
 use mathlib.Core.Path.{_≡_, refl, sym, ap, _∙_}
-use mathlib.Core.List.{List, [], _∷_, _++_}
-use Prim.Native.Nat.{ℕ, zero, suc, _+_}
+use mathlib.Core.List.{List, [], _∷_}
+use Prim.Native.Nat.{ℕ, zero, suc}
 use native.Mathlib.Omega.{arith}
-use lib.ListN.{length, drop}
 use Rattle.wire.specs.declared.PhyNumber.{PhyNumber}
 use Rattle.wire.specs.Bits.{bit}
 use Rattle.wire.specs.PhySet.{member, tally, physIn}
-use Rattle.tables.specs.Outcome.{Answer, refusal, answer, Out, out, outcome}
+use Rattle.tables.specs.Outcome.{refusal, answer, out, outcome}
 use Rattle.tables.specs.Phys.{emptySet}
 use Rattle.opens.specs.declared.Opened.the-variants.{Forward}
 use Rattle.opens.specs.Search.{search}
@@ -19,7 +18,7 @@ use Rattle.opens.proofs.Unique.{one-answer}
 use Rattle.requests.specs.Requests.{Reply, turnedDown}
 use Rattle.smp.specs.Smp.{functionOf, smpReply, valuesOf, buffersOf}
 use Rattle.smp.proofs.SmpLaws.{down}
-use Rattle.shelf.specs.Calls.{Call, startUp, leaving, identify, elect, opening, primitive, broadcastFrame, smp, outcomeOf, handedIn, answerOf}
+use Rattle.shelf.specs.Calls.{startUp, leaving, identify, elect, opening, primitive, broadcastFrame, smp, outcomeOf, handedIn, answerOf}
 use Rattle.shelf.specs.Promises.{Refusals, TurnedDown}
 
 -- an outcome that is a refusal has the buffers that were handed in

@@ -1,8 +1,8 @@
 -- History, over any run of calls, and isolation.
 -- Assumes nothing.
 use mathlib.Core.Path.{_≡_, refl, sym, ap, _∙_}
-use mathlib.Core.Bool.{Bool, true, false, cond}
-use mathlib.Core.Logic.{_⊎_, inl, inr}
+use mathlib.Core.Bool.{false, cond}
+use mathlib.Core.Logic.{inl, inr}
 use mathlib.Core.List.{List, [], _∷_, _++_}
 use Prim.Native.Nat.{ℕ, zero, suc, _<_}
 use native.Mathlib.Omega.{arith}
@@ -13,20 +13,20 @@ use Rattle.wire.specs.PhySet.{member}
 use Rattle.wire.proofs.Sets.{member-front}
 use Rattle.permit.specs.Permission.{P, startTable}
 use Rattle.permit.specs.Orders.{Order, apply}
-use Rattle.permit.specs.History.{Zone, Valid, latest, Says}
+use Rattle.permit.specs.History.{Zone, Valid, latest}
 use Rattle.permit.proofs.Laws.{length-start}
 use Rattle.permit.proofs.HistoryLaws.{apply-append, length-apply, valid-append, history}
 use Rattle.tables.specs.Refusals.{firstRefusal}
-use Rattle.tables.specs.Outcome.{Answer, refusal, answer, Out, out, outcome}
+use Rattle.tables.specs.Outcome.{outcome}
 use Rattle.tables.specs.Phys.{phyGroup}
 use Rattle.links.specs.Links.{startUpOut}
 use Rattle.opens.specs.Open.{openSource}
 use Rattle.opens.proofs.OpenLaws as opens
-use Rattle.broadcasts.specs.Broadcasts.{toldSet, frameSource, primitiveOut, broadcastOut}
+use Rattle.broadcasts.specs.Broadcasts.{toldSet}
 use Rattle.broadcasts.proofs.ToldLaws as broadcasts
 use Rattle.smp.specs.Smp.{roomFor, smpChecks, smpOut, acceptedOrders}
 use Rattle.smp.proofs.SmpLaws.{permissionsAfter, orders-applied, orders-valid}
-use Rattle.shelf.specs.Calls.{Call, startUp, leaving, identify, elect, opening, primitive, broadcastFrame, smp, outcomeOf, answerOf, bufferOf, after, accepted, kept, run, orders}
+use Rattle.shelf.specs.Calls.{Call, startUp, leaving, identify, elect, opening, primitive, broadcastFrame, smp, outcomeOf, bufferOf, after, accepted, kept, run, orders}
 use Rattle.shelf.specs.Promises.{History, NoOpen, NoBroadcast}
 use Rattle.shelf.proofs.Answers.{gave, forwarded}
 

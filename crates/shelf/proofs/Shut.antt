@@ -1,9 +1,9 @@
 -- The count, the supervisor, and programs that are shut out by name, by cases 1 and 5.
 -- Assumes nothing.
-use mathlib.Core.Path.{_≡_, refl, sym, ap, _∙_}
-use mathlib.Core.Bool.{Bool, true, false}
+use mathlib.Core.Path.{_≡_, sym, ap, _∙_}
+use mathlib.Core.Bool.{true, false}
 use mathlib.Core.List.{List, [], _∷_, _++_}
-use Prim.Native.Nat.{ℕ, zero, suc}
+use Prim.Native.Nat.{ℕ}
 use native.Mathlib.Omega.{arith}
 use lib.ListN.{length, getD, drop, replicate}
 use Rattle.wire.specs.PhySet.{physIn}
@@ -15,7 +15,6 @@ use Rattle.tables.specs.Phys.{phyGroup}
 use Rattle.election.proofs.ElectionLaws.{greatest}
 use Rattle.broadcasts.specs.Broadcasts.{toldSet, frameSource}
 use Rattle.broadcasts.proofs.ToldLaws.{length-told}
-use Rattle.requests.specs.Requests.{Reply}
 use Rattle.smp.specs.Smp.{smpReply}
 use Rattle.smp.proofs.SmpLaws.{set-16}
 use Rattle.rack.specs.Rack.{rackTable}

@@ -1,9 +1,9 @@
 -- Ports: what an incoming broadcast leaves alone, whom of each port it names, and where an OPEN never goes.
 -- Assumes nothing.
-use mathlib.Core.Path.{_≡_, refl, sym, ap, _∙_}
-use mathlib.Core.Bool.{Bool, true, false}
-use mathlib.Core.List.{List, [], _∷_, _++_}
-use Prim.Native.Nat.{ℕ, _+_, _*_, _/_, _%_, _≤_, _<_}
+use mathlib.Core.Path.{_≡_, sym, ap, _∙_}
+use mathlib.Core.Bool.{false}
+use mathlib.Core.List.{List, [], _++_}
+use Prim.Native.Nat.{ℕ, _+_, _*_, _/_, _%_, _<_}
 use native.Mathlib.Decide.{decLt}
 use native.Mathlib.Omega.{arith}
 use borrow.Author.Tests.{ne-eqb}
@@ -19,7 +19,7 @@ use Rattle.opens.proofs.OpenLaws.{forward-permitted}
 use Rattle.broadcasts.specs.Broadcasts.{told, toldSet, frameSource}
 use Rattle.broadcasts.proofs.ToldLaws.{told-parts, told-lowest, told-once, port-named, in-set, length-told}
 use Rattle.shelf.specs.Calls.{outcomeOf}
-use Rattle.shelf.specs.Promises.{Relayed, aPrimitive, aFrame, ToldPermitted, ToldOnce, LowestTold, EachPortTold, NoReturn, LeavesPort}
+use Rattle.shelf.specs.Promises.{Relayed, aPrimitive, aFrame, ToldPermitted, ToldOnce, EachPortTold, NoReturn, LeavesPort}
 use Rattle.shelf.proofs.Answers.{gave, forwarded}
 
 -- the set that either call left has exactly the phys that are told

@@ -2,7 +2,7 @@
 -- Assumes nothing.
 use mathlib.Core.Path.{_≡_, refl, sym, ap, ap₂, _∙_}
 use mathlib.Core.Bool.{Bool, true, false}
-use mathlib.Core.List.{List, [], _∷_, _++_}
+use mathlib.Core.List.{List, _++_}
 use Prim.Native.Nat.{ℕ, zero, suc, _+_, _-_, _*_, _/_, _%_, _^_, min, _≤_, _<_}
 use native.Mathlib.Nat.{pow-suc, pow-le-pow-right, add-zero, zero-add}
 use native.Mathlib.Decide.{decLt}
@@ -12,10 +12,9 @@ use mir.Syntax.{w8}
 use mir.Val.{boolByte, Fits}
 use lib.Dec.{eqb, lit<}
 use lib.Pow.{shr-shr}
-use lib.ListN.{length, take, drop, getD, List·getD-append}
-use lib.Seq.{take-at}
+use lib.ListN.{length, getD, List·getD-append}
 use lib.Count.{ones, ones-step, ones-le}
-use Rattle.wire.specs.Bits.{num, bit, tab}
+use Rattle.wire.specs.Bits.{num, bit}
 use Rattle.wire.specs.PhySet.{member, bitsOf, setByte, setOf, tally, physIn}
 use Rattle.wire.proofs.BitLaws.{num-le, eqb-num, byte-num, byte-le}
 use Rattle.wire.proofs.Loops.{length-tab, getD-tab}

@@ -186,6 +186,7 @@ fn told_byte(
     byte as u8
 }
 
+// The set of the phys that are told. Past the byte of the last phy it stays empty.
 fn write_told_set(
     phys: &[u8],
     permissions: &[u8],

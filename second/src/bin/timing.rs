@@ -346,6 +346,12 @@ fn half_told(mut lent: Lent) -> Lent {
     lent
 }
 
+/// Group 1, which is speaking, reaches no group.
+fn none_told(mut lent: Lent) -> Lent {
+    lent.permissions[16..32].fill(0);
+    lent
+}
+
 fn single(mut lent: Lent) -> Lent {
     lent.message = vec![0x40, 0xc1, 0, 2, 0, 0, 0x08, 0x89, 0, 0x81, 0, 0];
     lent
@@ -445,7 +451,13 @@ fn growth() -> Vec<Row> {
     }
     for phys in [8, 32, 128] {
         let lent = ports_of(shelf(phys, 0), 1);
-        rows.push(case(&format!("primitive, {phys} phys and ports"), PRIMITIVE, lent, Runs::Many));
+        rows.push(case(&format!("primitive, {phys} phys and ports, all told"), PRIMITIVE, lent.clone(), Runs::Many));
+        rows.push(case(
+            &format!("primitive, {phys} phys and ports, none told"),
+            PRIMITIVE,
+            none_told(lent),
+            Runs::Many,
+        ));
     }
     for k in [1, 4, 16, 63] {
         rows.push(case(&format!("C1h batch, rows {k}"), SMP, batch(shelf(128, 0), k), Runs::Many));

@@ -2,7 +2,6 @@
 -- Assumes nothing.
 use mathlib.Core.Path.{_≡_, refl, sym, ap, _∙_}
 use mathlib.Core.Bool.{Bool, true, false, not, and-false, and-true}
-use mathlib.Core.Logic.{_⊎_, inl, inr}
 use mathlib.Core.List.{List, _++_}
 use Prim.Native.Nat.{ℕ, zero, suc, _+_, _-_, _*_, _%_, min, _≤_, _<_}
 use native.Mathlib.Decide.{ℕ-discrete, decLt}
@@ -20,7 +19,7 @@ use Rattle.wire.proofs.Sets.{Up, up-start, bits-lt, up-room, up-twice, up-on, u
 use Rattle.tables.specs.Phys.{phyRecord, phyCount, phyAddress, ready, emptySet}
 use Rattle.tables.specs.Ports.{samePort}
 use Rattle.tables.proofs.ArrivalLaws.{never, both}
-use Rattle.tables.proofs.PortLaws.{Sisters, port-view, port-sisters, port-apart, port-outside}
+use Rattle.tables.proofs.PortLaws.{port-address, port-sisters, port-apart, port-outside}
 use Rattle.broadcasts.specs.Broadcasts.{permitted, sister, told, toldSet}
 use Rattle.broadcasts.specs.Inner.{candidate, slotOf, inSlot, Latest, Chain, Met, ended, found, onward, Kept, Judged, ByteTold}
 use Rattle.broadcasts.proofs.ToldLaws.{some-none, permitted-parts, sister-parts, sister-is, sister-not, told-parts, told-is, told-later, told-out, told-self}
@@ -103,18 +102,11 @@ module _ (phys permissions : List ℕ) (phy source : ℕ) where
       → inSlot phys permissions phy source (slotOf (phyAddress phys i)) j ≡ false → sister phys permissions source i j ≡ false
   sister-slot i j l ci nz gone = go (sister phys permissions source i j) refl
     where
-      same : samePort phys i j ≡ true → phyAddress phys i ≡ phyAddress phys j
-      same e = viewed (port-view phys i j e)
-        where
-          viewed : (i ≡ j) ⊎ Sisters phys i j → phyAddress phys i ≡ phyAddress phys j
-          viewed (inl p) = ap (phyAddress phys) p
-          viewed (inr r) = r .same
-
       go : (v : Bool) → sister phys permissions source i j ≡ v → v ≡ false
       go true e =
           let p = sister-parts phys permissions source i j e in
           let o = port-outside phys phy i j (candidate-parts phys permissions phy source i ci .1) (p .1) in
-          let a = same (p .1) in
+          let a = port-address phys i j (p .1) in
           never (sym gone ∙ in-slot (slotOf (phyAddress phys i)) j (λ z. nz (a ∙ z)) (ap slotOf (sym a)) ∙ candidate-is phys permissions phy source j (p .0) o)
       go false e = refl
 

@@ -77,20 +77,27 @@ port-apart phys i j ne ns = go (samePort phys i j) refl
     go true e = absurd (apart (port-view phys i j e))
     go false e = refl
 
--- a phy that is not ready is a port by itself, and so is one with address zero
-pub port-unready : (phys : List ℕ) (i j : ℕ) → ready phys i ≡ false → samePort phys i j ≡ true → i ≡ j
-port-unready phys i j off e = go (port-view phys i j e)
+-- all phys of a port have one address
+pub port-address : (phys : List ℕ) (i j : ℕ) → samePort phys i j ≡ true → phyAddress phys i ≡ phyAddress phys j
+port-address phys i j e = go (port-view phys i j e)
+  where
+    go : (i ≡ j) ⊎ Sisters phys i j → phyAddress phys i ≡ phyAddress phys j
+    go (inl p) = ap (phyAddress phys) p
+    go (inr r) = r .same
+
+-- who has no sister is a port by itself: a phy that is not ready, and one with address zero
+port-alone : (phys : List ℕ) (i j : ℕ) → (Sisters phys i j → ⊥) → samePort phys i j ≡ true → i ≡ j
+port-alone phys i j ns e = go (port-view phys i j e)
   where
     go : (i ≡ j) ⊎ Sisters phys i j → i ≡ j
     go (inl p) = p
-    go (inr r) = never (sym off ∙ r .first)
+    go (inr r) = absurd (ns r)
+
+pub port-unready : (phys : List ℕ) (i j : ℕ) → ready phys i ≡ false → samePort phys i j ≡ true → i ≡ j
+port-unready phys i j off e = port-alone phys i j (λ r. never (sym off ∙ r .first)) e
 
 pub port-zero : (phys : List ℕ) (i j : ℕ) → phyAddress phys i ≡ 0 → samePort phys i j ≡ true → i ≡ j
-port-zero phys i j z e = go (port-view phys i j e)
-  where
-    go : (i ≡ j) ⊎ Sisters phys i j → i ≡ j
-    go (inl p) = p
-    go (inr r) = absurd (r .known z)
+port-zero phys i j z e = port-alone phys i j (λ r. r .known z) e
 
 -- a phy outside k's port has its whole port outside
 pub port-outside : (phys : List ℕ) (k i j : ℕ) → samePort phys k i ≡ false → samePort phys i j ≡ true → samePort phys k j ≡ false

@@ -91,12 +91,6 @@ fn slot_of(address: u64) -> usize
     (address % 4294967296 * 2654435761 / 16777216 % 256) as usize
 }
 
-fn wide(b: u8) -> usize
-    ensures { λ r. ⌜ r ≡ b ⌝ }
-{
-    b as usize
-}
-
 // Whether a phy of the chain has this address. `from` and each element of `next` are one more than a phy's number, or 0 at the end;
 // phy i's element is at i + 1.
 fn met(phys: &[u8], next: &[u8; 129], address: u64, from: usize) -> bool
@@ -108,7 +102,7 @@ fn met(phys: &[u8], next: &[u8; 129], address: u64, from: usize) -> bool
         if wire::address_at(phys, tables::PHY_RECORD * (k - 1) + 4) == address {
             return true;
         }
-        k = wide(next[k]);
+        k = wire::index(next[k]);
     }
     false
 }
@@ -143,7 +137,7 @@ fn is_told(
     let last = slots[slot];
     next[i + 1] = last;
     slots[slot] = i as u8 + 1;
-    !met(phys, next, address, wide(last))
+    !met(phys, next, address, wire::index(last))
 }
 
 // Where byte k of the set ends: with its eight phys, or with the last that there is.

@@ -294,12 +294,6 @@ pub fn cut_line(number: u64, text: &mut [u8]) -> usize
     text::put_bytes(b" T\n", text, a)
 }
 
-fn wide(b: u8) -> usize
-    ensures { λ r. ⌜ (r ≡ b) × (r < 256) ⌝ }
-{
-    b as usize
-}
-
 // How many bytes the event at the front of `bytes` has: 0 where it is cut off.
 pub fn event_length(bytes: &[u8]) -> usize
     ensures { λ r. ⌜ (r ≡ eventLength (now (bytes .entry))) × (r ≤ length (now (bytes .entry))) ⌝ }
@@ -307,7 +301,7 @@ pub fn event_length(bytes: &[u8]) -> usize
     if bytes.len() < 5 {
         return 0;
     }
-    let length = 5 + (wide(bytes[3]) * 256 + wide(bytes[4]));
+    let length = 5 + (wire::index(bytes[3]) * 256 + wire::index(bytes[4]));
     if bytes.len() < length {
         return 0;
     }

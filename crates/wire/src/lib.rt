@@ -26,6 +26,13 @@ pub fn outside_group(b: u8) -> ZoneGroup
     ZoneGroup(b % 128)
 }
 
+// A byte as a number to count or point with. A cast of what is just read from a buffer is a call, since that is how it is proved.
+pub fn index(b: u8) -> usize
+    ensures { λ r. ⌜ (r ≡ b) × (r < 256) ⌝ }
+{
+    b as usize
+}
+
 fn wide(b: u8) -> u64
     ensures { λ r. ⌜ (r ≡ b) × (r < 256) ⌝ }
 {

@@ -50,8 +50,8 @@ add-slots c = search needs
 element-write-slots : tie.Need-element-write-slots
 element-write-slots c = search needs
 
-wide-requires : tie.Need-wide-requires
-wide-requires c κs = search needs
+index-requires : tie.Need-index-requires
+index-requires c κs = search needs
 
 met-requires : tie.Need-met-requires
 met-requires c κs = search chain-there
@@ -78,6 +78,6 @@ is-told-spec =
     cast-slots
     add-slots
     element-write-slots
-    wide-requires
+    index-requires
     met-requires
     returns-4)

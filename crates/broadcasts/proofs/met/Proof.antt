@@ -30,11 +30,11 @@ address-at-requires c κs = omega arith
 returns : tie.Need-returns Inv-loop μ-loop
 returns c = search along-met
 
-element-copy-out-wide : tie.Need-element-copy-out-wide Inv-loop μ-loop
-element-copy-out-wide c = omega arith
+element-copy-out-index : tie.Need-element-copy-out-index Inv-loop μ-loop
+element-copy-out-index c = omega arith
 
-wide-requires : tie.Need-wide-requires Inv-loop μ-loop
-wide-requires c κs = omega arith
+index-requires : tie.Need-index-requires Inv-loop μ-loop
+index-requires c κs = omega arith
 
 loop-less : tie.Need-loop-less Inv-loop μ-loop
 loop-less c = search along-less
@@ -57,8 +57,8 @@ met-spec =
     add-address-at
     address-at-requires
     returns
-    element-copy-out-wide
-    wide-requires
+    element-copy-out-index
+    index-requires
     loop-less
     loop-again
     returns-2)

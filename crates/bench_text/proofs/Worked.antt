@@ -5,7 +5,7 @@ use Rattle.wire.specs.Address.{bigEndian, addressAt}
 use Rattle.wire.specs.Bits.{bit, setBit, tab}
 use Rattle.wire.specs.PhySet.{member, bitsOf, setByte, setOf, tally, physIn, some}
 use Rattle.permit.specs.Orders.{apply, rowOrders, batchOrders}
-use Rattle.permit.specs.Permission.{place, P, setP, setBoth, startByte, startTable}
+use Rattle.permit.specs.Permission.{place, P, reaches, setP, setBoth, startByte, startTable}
 use Rattle.tables.specs.Outcome.{outcome}
 use Rattle.tables.specs.Phys.{physSized, readySet, emptySet}
 use Rattle.tables.specs.Ports.{samePort}
@@ -14,7 +14,7 @@ use Rattle.tables.specs.Arrival.{arrivalChecks}
 use Rattle.tables.specs.Refusals.{firstRefusal}
 use Rattle.opens.specs.Open.{openSource, judge, byte20, sent}
 use Rattle.opens.specs.Search.{sameBytes, zeroBytes, findPhy, findRoute, search}
-use Rattle.broadcasts.specs.Broadcasts.{permitted, sister, told, toldSet, frameByte, frameOf}
+use Rattle.broadcasts.specs.Broadcasts.{permitted, permittedInPort, told, toldSet, frameByte, frameOf}
 use Rattle.requests.specs.Requests.{smpSource, right, replied}
 use Rattle.zone_permission.specs.ZonePermission.{operationChecks, ordersOf, permissionReply}
 use Rattle.smp.specs.Smp.{smpReply, lengthField}
@@ -25,5 +25,5 @@ use Rattle.bench_text.specs.Stream.{ending, linesOf, wholeText}
 use Rattle.bench_text.specs.Cases.{fiveCases, fiveLines, Worked}
 
 pub worked : Worked
-unfolding bigEndian addressAt bit setBit tab member bitsOf setByte setOf tally physIn apply rowOrders batchOrders place P setP setBoth startByte startTable outcome physSized routesSized arrivalChecks readySet emptySet firstRefusal openSource judge byte20 sent sameBytes zeroBytes findPhy findRoute search samePort some permitted sister told toldSet frameByte frameOf smpSource right replied operationChecks ordersOf permissionReply smpReply lengthField rack flat rackTable digits decimal line smpGives openGives primitiveGives gives eventGives eventLength ending linesOf wholeText fiveCases fiveLines
+unfolding bigEndian addressAt bit setBit tab member bitsOf setByte setOf tally physIn apply rowOrders batchOrders place P reaches setP setBoth startByte startTable outcome physSized routesSized arrivalChecks readySet emptySet firstRefusal openSource judge byte20 sent sameBytes zeroBytes findPhy findRoute search samePort some permitted permittedInPort told toldSet frameByte frameOf smpSource right replied operationChecks ordersOf permissionReply smpReply lengthField rack flat rackTable digits decimal line smpGives openGives primitiveGives gives eventGives eventLength ending linesOf wholeText fiveCases fiveLines
 worked = (refl, refl)

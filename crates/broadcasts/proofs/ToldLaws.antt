@@ -10,13 +10,13 @@ use borrow.Author.Tests.{not-true, not-false}
 use lib.ListN.{length}
 use Rattle.wire.specs.PhySet.{member, some}
 use Rattle.wire.proofs.Sets.{member-setOf, length-setOf}
-use Rattle.permit.specs.Permission.{P}
+use Rattle.permit.specs.Permission.{reaches}
 use Rattle.tables.specs.Phys.{phyCount, phyGroup, ready}
 use Rattle.tables.specs.Ports.{samePort}
 use Rattle.tables.proofs.ArrivalLaws.{never, both}
 use Rattle.tables.proofs.PhyLaws.{ready-out}
 use Rattle.tables.proofs.PortLaws.{port-self, port-sym, port-trans, port-outside}
-use Rattle.broadcasts.specs.Broadcasts.{permitted, sister, told, toldSet}
+use Rattle.broadcasts.specs.Broadcasts.{permitted, permittedInPort, told, toldSet}
 
 -- ---- at some number, at none
 pub some-none : (f : ℕ → Bool) (n : ℕ) → ((j : ℕ) → j < n → f j ≡ false) → some f n ≡ false
@@ -50,122 +50,122 @@ some-at f (suc n) e = go (f n) refl e (some-at f n)
     go false p q r = let s = r q in record { at = s .at; below = omega (arith, s .below); on = s .on }
 
 -- ---- a permitted phy
-module _ (phys permissions : List ℕ) (source i : ℕ) where
-  pub permitted-parts : permitted phys permissions source i ≡ true → (ready phys i ≡ true) × (P 16 permissions source (phyGroup phys i) ≡ true)
+module _ (w : ℕ) (phys permissions : List ℕ) (source i : ℕ) where
+  pub permitted-parts : permitted w phys permissions source i ≡ true → (ready phys i ≡ true) × (reaches w permissions source (phyGroup phys i) ≡ true)
   unfolding permitted
   permitted-parts e = both (ready phys i) _ e
 
   -- as the code asks it: x is whether the source may reach the phy's group g
-  module _ (g : ℕ) (x : Bool) (eg : g ≡ phyGroup phys i) (e : x ≡ P 16 permissions source g) where
-    pub permitted-off : not x ≡ true → false ≡ permitted phys permissions source i
+  module _ (g : ℕ) (x : Bool) (eg : g ≡ phyGroup phys i) (e : x ≡ reaches w permissions source g) where
+    pub permitted-off : not x ≡ true → false ≡ permitted w phys permissions source i
     unfolding permitted
     permitted-off h = rw (← eg, ← e, not-true x h, and-false (ready phys i))
 
-    pub permitted-on : not x ≡ false → ready phys i ≡ permitted phys permissions source i
+    pub permitted-on : not x ≡ false → ready phys i ≡ permitted w phys permissions source i
     unfolding permitted
     permitted-on h = rw (← eg, ← e, not-false x h, and-true (ready phys i))
 
-  pub sister-parts : (j : ℕ) → sister phys permissions source i j ≡ true → (permitted phys permissions source j ≡ true) × (samePort phys i j ≡ true)
-  unfolding sister
-  sister-parts j e = both (permitted phys permissions source j) _ e
+  pub in-port-parts : (j : ℕ) → permittedInPort w phys permissions source i j ≡ true → (permitted w phys permissions source j ≡ true) × (samePort phys i j ≡ true)
+  unfolding permittedInPort
+  in-port-parts j e = both (permitted w phys permissions source j) _ e
 
-  pub sister-is : (j : ℕ) → permitted phys permissions source j ≡ true → samePort phys i j ≡ true → sister phys permissions source i j ≡ true
-  unfolding sister
-  sister-is j p e = rw (p, e)
+  pub in-port-is : (j : ℕ) → permitted w phys permissions source j ≡ true → samePort phys i j ≡ true → permittedInPort w phys permissions source i j ≡ true
+  unfolding permittedInPort
+  in-port-is j p e = rw (p, e)
 
-  pub sister-not : (j : ℕ) → samePort phys i j ≡ false → sister phys permissions source i j ≡ false
-  unfolding sister
-  sister-not j e = rw e (and-false (permitted phys permissions source j))
+  pub in-port-not : (j : ℕ) → samePort phys i j ≡ false → permittedInPort w phys permissions source i j ≡ false
+  unfolding permittedInPort
+  in-port-not j e = rw e (and-false (permitted w phys permissions source j))
 
 -- ---- whether phy i is told
-module _ (phys permissions : List ℕ) (phy source i : ℕ) where
-  pub told-parts : told phys permissions phy source i ≡ true
-      → (permitted phys permissions source i ≡ true) × (samePort phys phy i ≡ false) × (some (sister phys permissions source i) i ≡ false)
+module _ (w : ℕ) (phys permissions : List ℕ) (phy source i : ℕ) where
+  pub told-parts : told w phys permissions phy source i ≡ true
+      → (permitted w phys permissions source i ≡ true) × (samePort phys phy i ≡ false) × (some (permittedInPort w phys permissions source i) i ≡ false)
   unfolding told
   told-parts e =
-      let a = both (permitted phys permissions source i) _ e in
+      let a = both (permitted w phys permissions source i) _ e in
       let b = both (not (samePort phys phy i)) _ (a .1) in
       (a .0, not-true _ (b .0), not-true _ (b .1))
 
-  pub told-is : permitted phys permissions source i ≡ true → samePort phys phy i ≡ false → some (sister phys permissions source i) i ≡ false
-      → told phys permissions phy source i ≡ true
+  pub told-is : permitted w phys permissions source i ≡ true → samePort phys phy i ≡ false → some (permittedInPort w phys permissions source i) i ≡ false
+      → told w phys permissions phy source i ≡ true
   unfolding told
   told-is p o n = rw (p, o, n)
 
-  pub told-later : (j : ℕ) → j < i → sister phys permissions source i j ≡ true → told phys permissions phy source i ≡ false
+  pub told-later : (j : ℕ) → j < i → permittedInPort w phys permissions source i j ≡ true → told w phys permissions phy source i ≡ false
   unfolding told
-  told-later j l e = rw (some-one (sister phys permissions source i) i j l e, and-false (not (samePort phys phy i))) (and-false (permitted phys permissions source i))
+  told-later j l e = rw (some-one (permittedInPort w phys permissions source i) i j l e, and-false (not (samePort phys phy i))) (and-false (permitted w phys permissions source i))
 
   -- beyond the table
-  pub told-out : length phys % 12 ≡ 0 → phyCount phys ≤ i → false ≡ told phys permissions phy source i
+  pub told-out : length phys % 12 ≡ 0 → phyCount phys ≤ i → false ≡ told w phys permissions phy source i
   unfolding told permitted
-  told-out w h = rw (← ready-out phys i w h)
+  told-out e h = rw (← ready-out phys i e h)
 
   -- in the arriving port, the arriving phy among them
-  told-own : samePort phys phy i ≡ true → told phys permissions phy source i ≡ false
+  told-own : samePort phys phy i ≡ true → told w phys permissions phy source i ≡ false
   unfolding told
-  told-own e = rw e (and-false (permitted phys permissions source i))
+  told-own e = rw e (and-false (permitted w phys permissions source i))
 
   -- not permitted
-  told-barred : P 16 permissions source (phyGroup phys i) ≡ false → told phys permissions phy source i ≡ false
+  pub told-barred : reaches w permissions source (phyGroup phys i) ≡ false → told w phys permissions phy source i ≡ false
   unfolding told permitted
   told-barred p = rw (p, and-false (ready phys i))
 
   -- in the set exactly if told
-  pub in-set : i < 128 → member (toldSet phys permissions phy source) i ≡ told phys permissions phy source i
+  pub in-set : i < 128 → member (toldSet w phys permissions phy source) i ≡ told w phys permissions phy source i
   unfolding toldSet
-  in-set h = member-setOf (told phys permissions phy source) i h
+  in-set h = member-setOf (told w phys permissions phy source) i h
 
   -- a phy whose group the source may not reach is in no set
-  pub barred : i < 128 → P 16 permissions source (phyGroup phys i) ≡ false → member (toldSet phys permissions phy source) i ≡ false
+  pub barred : i < 128 → reaches w permissions source (phyGroup phys i) ≡ false → member (toldSet w phys permissions phy source) i ≡ false
   barred h p = in-set h ∙ told-barred p
 
-pub told-self : (phys permissions : List ℕ) (phy source : ℕ) → told phys permissions phy source phy ≡ false
-told-self phys permissions phy source = told-own phys permissions phy source phy (port-self phys phy phy refl)
+pub told-self : (w : ℕ) (phys permissions : List ℕ) (phy source : ℕ) → told w phys permissions phy source phy ≡ false
+told-self w phys permissions phy source = told-own w phys permissions phy source phy (port-self phys phy phy refl)
 
-pub length-told : (phys permissions : List ℕ) (phy source : ℕ) → length (toldSet phys permissions phy source) ≡ 16
+pub length-told : (w : ℕ) (phys permissions : List ℕ) (phy source : ℕ) → length (toldSet w phys permissions phy source) ≡ 16
 unfolding toldSet
-length-told phys permissions phy source = length-setOf _
+length-told w phys permissions phy source = length-setOf _
 
 -- ---- of a port the lowest permitted phy
-module _ (phys permissions : List ℕ) (phy source : ℕ) where
+module _ (w : ℕ) (phys permissions : List ℕ) (phy source : ℕ) where
   -- no permitted phy of its port is lower
-  pub told-lowest : (i j : ℕ) → told phys permissions phy source i ≡ true → permitted phys permissions source j ≡ true → samePort phys i j ≡ true → i ≤ j
+  pub told-lowest : (i j : ℕ) → told w phys permissions phy source i ≡ true → permitted w phys permissions source j ≡ true → samePort phys i j ≡ true → i ≤ j
   told-lowest i j e c p = go (decLt j i)
     where
       go : Dec (j < i) → i ≤ j
-      go (yes l) = never (sym (told-later phys permissions phy source i j l (sister-is phys permissions source i j c p)) ∙ e)
+      go (yes l) = never (sym (told-later w phys permissions phy source i j l (in-port-is w phys permissions source i j c p)) ∙ e)
       go (no n) = omega arith
 
   -- so a port has at most one phy that is told
-  pub told-once : (i j : ℕ) → told phys permissions phy source i ≡ true → told phys permissions phy source j ≡ true → samePort phys i j ≡ true → i ≡ j
+  pub told-once : (i j : ℕ) → told w phys permissions phy source i ≡ true → told w phys permissions phy source j ≡ true → samePort phys i j ≡ true → i ≡ j
   told-once i j e d p =
-      let a = told-lowest i j e (told-parts phys permissions phy source j d .0) p in
-      let b = told-lowest j i d (told-parts phys permissions phy source i e .0) (port-sym phys i j p) in
+      let a = told-lowest i j e (told-parts w phys permissions phy source j d .0) p in
+      let b = told-lowest j i d (told-parts w phys permissions phy source i e .0) (port-sym phys i j p) in
       omega arith
 
 -- a phy of i's port that is told
-pub record Named (phys permissions : List ℕ) (phy source i : ℕ) : Type 0 where
+pub record Named (w : ℕ) (phys permissions : List ℕ) (phy source i : ℕ) : Type 0 where
   pub at : ℕ
   pub low : at ≤ i
-  pub named : told phys permissions phy source at ≡ true
+  pub named : told w phys permissions phy source at ≡ true
   pub port : samePort phys at i ≡ true
 
 -- each other port with a permitted phy has one
-module _ (phys permissions : List ℕ) (phy source : ℕ) where
-  up-to : (n i : ℕ) → i < n → permitted phys permissions source i ≡ true → samePort phys phy i ≡ false → Named phys permissions phy source i
+module _ (w : ℕ) (phys permissions : List ℕ) (phy source : ℕ) where
+  up-to : (n i : ℕ) → i < n → permitted w phys permissions source i ≡ true → samePort phys phy i ≡ false → Named w phys permissions phy source i
   up-to zero i l c o = absurd (omega arith)
-  up-to (suc n) i l c o = go (some (sister phys permissions source i) i) refl (up-to n)
+  up-to (suc n) i l c o = go (some (permittedInPort w phys permissions source i) i) refl (up-to n)
     where
-      go : (v : Bool) → some (sister phys permissions source i) i ≡ v
-          → ((j : ℕ) → j < n → permitted phys permissions source j ≡ true → samePort phys phy j ≡ false → Named phys permissions phy source j)
-          → Named phys permissions phy source i
-      go false e r = record { at = i; low = omega arith; named = told-is phys permissions phy source i c o e; port = port-self phys i i refl }
+      go : (v : Bool) → some (permittedInPort w phys permissions source i) i ≡ v
+          → ((j : ℕ) → j < n → permitted w phys permissions source j ≡ true → samePort phys phy j ≡ false → Named w phys permissions phy source j)
+          → Named w phys permissions phy source i
+      go false e r = record { at = i; low = omega arith; named = told-is w phys permissions phy source i c o e; port = port-self phys i i refl }
       go true e r =
-          let s = some-at (sister phys permissions source i) i e in
-          let b = sister-parts phys permissions source i (s .at) (s .on) in
+          let s = some-at (permittedInPort w phys permissions source i) i e in
+          let b = in-port-parts w phys permissions source i (s .at) (s .on) in
           let m = r (s .at) (omega (arith, s .below)) (b .0) (port-outside phys phy i (s .at) o (b .1)) in
           record { at = m .at; low = omega (arith, m .low, s .below); named = m .named; port = port-trans phys (m .at) (s .at) i (m .port) (port-sym phys i (s .at) (b .1)) }
 
-  pub port-named : (i : ℕ) → permitted phys permissions source i ≡ true → samePort phys phy i ≡ false → Named phys permissions phy source i
+  pub port-named : (i : ℕ) → permitted w phys permissions source i ≡ true → samePort phys phy i ≡ false → Named w phys permissions phy source i
   port-named i c o = up-to (suc i) i (omega arith) c o

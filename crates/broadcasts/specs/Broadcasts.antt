@@ -1,4 +1,4 @@
--- "Broadcasts": a primitive, or a broadcast frame, arrives on a phy.
+-- "Broadcasts": a primitive, or a broadcast frame, arrives on a phy. w is the permission table's row width in bytes.
 use mathlib.Core.Bool.{Bool, true, cond, not, _&&_}
 use mathlib.Core.List.{List, [], _∷_, _++_}
 use Prim.Native.Nat.{ℕ, _+_, _*_, _/_, _%_}
@@ -7,7 +7,7 @@ use lib.ListN.{length, getD, drop}
 use Rattle.wire.specs.Bits.{tab}
 use Rattle.wire.specs.Groups.{outsideGroup}
 use Rattle.wire.specs.PhySet.{some, setOf, physIn}
-use Rattle.permit.specs.Permission.{permissionsSized, P}
+use Rattle.permit.specs.Permission.{permissionsSized, reaches}
 use Rattle.tables.specs.Refusals.{Check, refuse, below, same, differ, off, firstRefusal}
 use Rattle.tables.specs.Outcome.{Answer, refusal, answer, Out, outcome}
 use Rattle.tables.specs.Phys.{phyGroup, participating, ready}
@@ -21,21 +21,21 @@ abbrev pub toldAs : Told → Answer
 toldAs (Refused n) = refusal n
 toldAs (Count n) = answer (n ∷ [])
 
--- a permitted phy: "ready .., with P(source group, its group) on"
-unfoldable pub permitted : List ℕ → List ℕ → ℕ → ℕ → Bool
-permitted phys permissions source i = ready phys i && P 16 permissions source (phyGroup phys i)
+-- a permitted phy: "ready .., with P(source group, its group) on"; `reaches` is P, and says what holds for groups that the table does not hold
+unfoldable pub permitted : ℕ → List ℕ → List ℕ → ℕ → ℕ → Bool
+permitted w phys permissions source i = ready phys i && reaches w permissions source (phyGroup phys i)
 
--- phy j is a permitted phy of phy i's port
-unfoldable pub sister : List ℕ → List ℕ → ℕ → ℕ → ℕ → Bool
-sister phys permissions source i j = permitted phys permissions source j && samePort phys i j
+-- phy j, which may be phy i itself, is a permitted phy of phy i's port
+unfoldable pub permittedInPort : ℕ → List ℕ → List ℕ → ℕ → ℕ → ℕ → Bool
+permittedInPort w phys permissions source i j = permitted w phys permissions source j && samePort phys i j
 
 -- "A set for an incoming broadcast leaves out that port" (the arriving phy's) "and names only the lowest permitted phy of each other port."
-unfoldable pub told : List ℕ → List ℕ → ℕ → ℕ → ℕ → Bool
-told phys permissions phy source i =
-    permitted phys permissions source i && (not (samePort phys phy i) && not (some (sister phys permissions source i) i))
+unfoldable pub told : ℕ → List ℕ → List ℕ → ℕ → ℕ → ℕ → Bool
+told w phys permissions phy source i =
+    permitted w phys permissions source i && (not (samePort phys phy i) && not (some (permittedInPort w phys permissions source i) i))
 
-unfoldable pub toldSet : List ℕ → List ℕ → ℕ → ℕ → List ℕ
-toldSet phys permissions phy source = setOf (told phys permissions phy source)
+unfoldable pub toldSet : ℕ → List ℕ → List ℕ → ℕ → ℕ → List ℕ
+toldSet w phys permissions phy source = setOf (told w phys permissions phy source)
 
 -- "a type 2h frame, written whole at every answer 0: byte 0 the number times 16 plus 2, byte 3 the source group, the other 26 bytes zero"
 -- Its byte k:
@@ -46,26 +46,26 @@ unfoldable pub frameOf : ℕ → ℕ → List ℕ
 frameOf number source = tab (frameByte number source) 0 28
 
 -- what both calls give, where n is the first refusal; the buffers: the phy set and the frame buffer
-abbrev pub announced : ℕ → List ℕ → List ℕ → ℕ → ℕ → ℕ → List ℕ → List ℕ → Out
-announced n phys permissions phy source number set frame =
+abbrev pub announced : ℕ → ℕ → List ℕ → List ℕ → ℕ → ℕ → ℕ → List ℕ → List ℕ → Out
+announced w n phys permissions phy source number set frame =
     outcome n
-    (physIn (toldSet phys permissions phy source) ∷ [])
+    (physIn (toldSet w phys permissions phy source) ∷ [])
     (set ∷ frame ∷ [])
-    ((toldSet phys permissions phy source ++ drop 16 set) ∷ (frameOf number source ++ drop 28 frame) ∷ [])
+    ((toldSet w phys permissions phy source ++ drop 16 set) ∷ (frameOf number source ++ drop 28 frame) ∷ [])
 
 -- "phy set under 16, or frame buffer under 28": whether there is room for both
 abbrev pub roomFor : List ℕ → List ℕ → Bool
 roomFor set frame = leb 16 (length set) && leb 28 (length frame)
 
 -- refusals 1, 2, 3, 7, and 5 ("primitive number over 7")
-abbrev pub primitiveChecks : List ℕ → List ℕ → ℕ → ℕ → Bool → List Check
-primitiveChecks phys permissions phy number room =
-    arrivalChecks phys phy (permissionsSized 16 permissions) room true ++ refuse 5 (below 7 number) ∷ []
+abbrev pub primitiveChecks : ℕ → List ℕ → List ℕ → ℕ → ℕ → Bool → List Check
+primitiveChecks w phys permissions phy number room =
+    arrivalChecks phys phy (permissionsSized w permissions) room true ++ refuse 5 (below 7 number) ∷ []
 
 -- "The source group of a primitive .. is the phy record's group."
-abbrev pub primitiveOut : List ℕ → List ℕ → ℕ → ℕ → List ℕ → List ℕ → Out
-primitiveOut phys permissions phy number set frame =
-    announced (firstRefusal (primitiveChecks phys permissions phy number (roomFor set frame)))
+abbrev pub primitiveOut : ℕ → List ℕ → List ℕ → ℕ → ℕ → List ℕ → List ℕ → Out
+primitiveOut w phys permissions phy number set frame =
+    announced w (firstRefusal (primitiveChecks w phys permissions phy number (roomFor set frame)))
     phys permissions phy (phyGroup phys phy) number set frame
 
 -- "Types are the low 4 bits of byte 0."
@@ -77,9 +77,9 @@ unfoldable pub typedLength : List ℕ → ℕ
 typedLength arrived = cond (eqb (typeOf arrived) 2) 28 (cond (eqb (typeOf arrived) 3) 4 (length arrived))
 
 -- refusals 1, 2, 3, 7, 4, 5 ("broadcast type not 2h or 3h") and 6 ("broadcast frame on a phy that is not participating")
-abbrev pub frameChecks : List ℕ → List ℕ → ℕ → List ℕ → Bool → List Check
-frameChecks phys permissions phy arrived room =
-    arrivalChecks phys phy (permissionsSized 16 permissions) room true
+abbrev pub frameChecks : ℕ → List ℕ → List ℕ → ℕ → List ℕ → Bool → List Check
+frameChecks w phys permissions phy arrived room =
+    arrivalChecks phys phy (permissionsSized w permissions) room true
     ++ refuse 4 (same (length arrived) 0)
     ∷ refuse 4 (differ (length arrived) (typedLength arrived))
     ∷ refuse 5 (below (typeOf arrived) 2)
@@ -95,7 +95,7 @@ frameNumber arrived = getD arrived 0 0 / 16 % 8
 abbrev pub frameSource : List ℕ → ℕ
 frameSource arrived = outsideGroup (getD arrived 3 0)
 
-abbrev pub broadcastOut : List ℕ → List ℕ → ℕ → List ℕ → List ℕ → List ℕ → Out
-broadcastOut phys permissions phy arrived set frame =
-    announced (firstRefusal (frameChecks phys permissions phy arrived (roomFor set frame)))
+abbrev pub broadcastOut : ℕ → List ℕ → List ℕ → ℕ → List ℕ → List ℕ → List ℕ → Out
+broadcastOut w phys permissions phy arrived set frame =
+    announced w (firstRefusal (frameChecks w phys permissions phy arrived (roomFor set frame)))
     phys permissions phy (frameSource arrived) (frameNumber arrived) set frame

@@ -1,4 +1,4 @@
--- What the inner functions ask and do.
+-- What the inner functions ask and do. w is the permission table's row width in bytes.
 use mathlib.Core.Path.{_≡_}
 use mathlib.Core.Bool.{Bool, true, false, not, _&&_}
 use mathlib.Core.List.{List, _++_}
@@ -6,37 +6,38 @@ use Prim.Native.Nat.{ℕ, _+_, _-_, _*_, _/_, _%_, _≤_, _<_}
 use lib.Dec.{eqb}
 use lib.ListN.{length, getD, drop}
 use Rattle.wire.specs.PhySet.{setByte, physIn}
+use Rattle.permit.specs.Permission.{Table}
 use Rattle.tables.specs.Phys.{phyRecord, phyCount, phyAddress, ready}
 use Rattle.tables.specs.Ports.{samePort}
 use Rattle.broadcasts.specs.Broadcasts.{permitted, told, toldSet, frameOf}
 
 -- tables of the right sizes and an arriving phy that is ready
-pub record Shelf (phys permissions : List ℕ) (phy : ℕ) : Type 0 where
+pub record Shelf (w : ℕ) (phys permissions : List ℕ) (phy : ℕ) : Type 0 where
   pub records : length phys % phyRecord ≡ 0
   pub most : length phys ≤ 128 * phyRecord
-  pub whole : length permissions ≡ 2048
+  pub table : Table w permissions
   pub there : phy < phyCount phys
   pub up : ready phys phy ≡ true
 
 -- where nothing is refused there is room too
-pub record Lent (phys permissions : List ℕ) (phy : ℕ) (set frame : List ℕ) : Type 0 where
-  pub shelf : Shelf phys permissions phy
+pub record Lent (w : ℕ) (phys permissions : List ℕ) (phy : ℕ) (set frame : List ℕ) : Type 0 where
+  pub shelf : Shelf w phys permissions phy
   pub setRoom : 16 ≤ length set
   pub frameRoom : 28 ≤ length frame
 
 -- ---- the candidates below a phy, found again by their addresses
 -- a permitted phy outside the arriving phy's port
-unfoldable pub candidate : List ℕ → List ℕ → ℕ → ℕ → ℕ → Bool
-candidate phys permissions phy source i = permitted phys permissions source i && not (samePort phys phy i)
+unfoldable pub candidate : ℕ → List ℕ → List ℕ → ℕ → ℕ → ℕ → Bool
+candidate w phys permissions phy source i = permitted w phys permissions source i && not (samePort phys phy i)
 
 -- the slot that an address goes to, one of 256
 unfoldable pub slotOf : ℕ → ℕ
 slotOf a = a % 4294967296 * 2654435761 / 16777216 % 256
 
 -- phy j is a candidate whose address is not zero and goes to slot h
-unfoldable pub inSlot : List ℕ → List ℕ → ℕ → ℕ → ℕ → ℕ → Bool
-inSlot phys permissions phy source h j =
-    candidate phys permissions phy source j && (not (eqb (phyAddress phys j) 0) && eqb (slotOf (phyAddress phys j)) h)
+unfoldable pub inSlot : ℕ → List ℕ → List ℕ → ℕ → ℕ → ℕ → ℕ → Bool
+inSlot w phys permissions phy source h j =
+    candidate w phys permissions phy source j && (not (eqb (phyAddress phys j) 0) && eqb (slotOf (phyAddress phys j)) h)
 
 -- k is one more than the last number below n at which f is true, or 0 where there is none
 pub record Latest (f : ℕ → Bool) (n k : ℕ) : Type 0 where
@@ -46,11 +47,11 @@ pub record Latest (f : ℕ → Bool) (n k : ℕ) : Type 0 where
 
 -- each slot leads to the last phy below i that is in it, and each phy below i that is in a slot to the one before it there; phy j's link is
 -- at j + 1
-pub record Kept (phys permissions : List ℕ) (phy source i : ℕ) (slots next : List ℕ) : Type 0 where
+pub record Kept (w : ℕ) (phys permissions : List ℕ) (phy source i : ℕ) (slots next : List ℕ) : Type 0 where
   pub slotted : length slots ≡ 256
   pub linked : length next ≡ 129
-  pub heads : (h : ℕ) → h < 256 → Latest (inSlot phys permissions phy source h) i (getD slots h 0)
-  pub links : (h j : ℕ) → j < i → inSlot phys permissions phy source h j ≡ true → Latest (inSlot phys permissions phy source h) j (getD next (j + 1) 0)
+  pub heads : (h : ℕ) → h < 256 → Latest (inSlot w phys permissions phy source h) i (getD slots h 0)
+  pub links : (h j : ℕ) → j < i → inSlot w phys permissions phy source h j ≡ true → Latest (inSlot w phys permissions phy source h) j (getD next (j + 1) 0)
   pub falls : (j : ℕ) → getD next (j + 1) 0 ≤ j
 
 -- a chain that can be walked from `from` on: each step goes down
@@ -68,17 +69,17 @@ pub data Met : List ℕ → List ℕ → ℕ → ℕ → Bool → Type 0 where
       → Met phys next address k r
 
 -- whether phy i is told, and the slots with it
-pub record Judged (phys permissions : List ℕ) (phy source i : ℕ) (slots next : List ℕ) (r : Bool) : Type 0 where
-  pub answer : r ≡ told phys permissions phy source i
-  pub kept : Kept phys permissions phy source (i + 1) slots next
+pub record Judged (w : ℕ) (phys permissions : List ℕ) (phy source i : ℕ) (slots next : List ℕ) (r : Bool) : Type 0 where
+  pub answer : r ≡ told w phys permissions phy source i
+  pub kept : Kept w phys permissions phy source (i + 1) slots next
 
 -- byte k of the set, and the slots with its eight phys, where there are more
-pub record ByteTold (phys permissions : List ℕ) (phy source k : ℕ) (slots next : List ℕ) (r : ℕ) : Type 0 where
-  pub answer : r ≡ setByte (told phys permissions phy source) k
-  pub kept : 8 * k + 8 ≤ phyCount phys → Kept phys permissions phy source (8 * k + 8) slots next
+pub record ByteTold (w : ℕ) (phys permissions : List ℕ) (phy source k : ℕ) (slots next : List ℕ) (r : ℕ) : Type 0 where
+  pub answer : r ≡ setByte (told w phys permissions phy source) k
+  pub kept : 8 * k + 8 ≤ phyCount phys → Kept w phys permissions phy source (8 * k + 8) slots next
 
 -- ---- the count, the phy set and the frame buffer at exit
-pub record Announced (phys permissions : List ℕ) (phy source number : ℕ) (set frame : List ℕ) (count : ℕ) (set₁ frame₁ : List ℕ) : Type 0 where
-  pub counted : count ≡ physIn (toldSet phys permissions phy source)
-  pub told : set₁ ≡ toldSet phys permissions phy source ++ drop 16 set
+pub record Announced (w : ℕ) (phys permissions : List ℕ) (phy source number : ℕ) (set frame : List ℕ) (count : ℕ) (set₁ frame₁ : List ℕ) : Type 0 where
+  pub counted : count ≡ physIn (toldSet w phys permissions phy source)
+  pub told : set₁ ≡ toldSet w phys permissions phy source ++ drop 16 set
   pub framed : frame₁ ≡ frameOf number source ++ drop 28 frame

@@ -6,6 +6,7 @@ ghost use mathlib.Core.Path.{_≡_};
 ghost use mathlib.Core.List.{[], _∷_, _++_};
 ghost use Prim.Native.Nat.{_+_, _*_, min, _<_, _≤_};
 ghost use lib.ListN.{length, drop};
+ghost use Rattle.permit.specs.Permission.{Width, Table};
 ghost use Rattle.tables.specs.Refusals.{firstRefusal};
 ghost use Rattle.tables.specs.Outcome.{out};
 ghost use Rattle.tables.specs.Phys.{phyCount, phyGroup, phyAddress};
@@ -17,10 +18,18 @@ pub enum Told {
     Count(u8),
 }
 
-fn primitive_refusal(phys: &[u8], permissions: &[u8], phy: PhyNumber, number: u8, room: bool) -> u8
-    ensures { λ r. ⌜ r ≡ firstRefusal (primitiveChecks (now (phys .entry)) (now (permissions .entry)) (phy .0) number room) ⌝ }
+fn primitive_refusal(
+    width: usize,
+    phys: &[u8],
+    permissions: &[u8],
+    phy: PhyNumber,
+    number: u8,
+    room: bool,
+) -> u8
+    requires { ⌜ Width width ⌝ }
+    ensures { λ r. ⌜ r ≡ firstRefusal (primitiveChecks width (now (phys .entry)) (now (permissions .entry)) (phy .0) number room) ⌝ }
 {
-    let sizes = permit::permissions_sized(permissions);
+    let sizes = permit::permissions_sized(width, permissions);
     let no = tables::arrival_refusal(phys, phy, sizes, room, READY);
     if no != 0 {
         return no;
@@ -46,10 +55,18 @@ fn typed_length(arrived: &[u8]) -> usize
     arrived.len()
 }
 
-fn frame_refusal(phys: &[u8], permissions: &[u8], phy: PhyNumber, arrived: &[u8], room: bool) -> u8
-    ensures { λ r. ⌜ r ≡ firstRefusal (frameChecks (now (phys .entry)) (now (permissions .entry)) (phy .0) (now (arrived .entry)) room) ⌝ }
+fn frame_refusal(
+    width: usize,
+    phys: &[u8],
+    permissions: &[u8],
+    phy: PhyNumber,
+    arrived: &[u8],
+    room: bool,
+) -> u8
+    requires { ⌜ Width width ⌝ }
+    ensures { λ r. ⌜ r ≡ firstRefusal (frameChecks width (now (phys .entry)) (now (permissions .entry)) (phy .0) (now (arrived .entry)) room) ⌝ }
 {
-    let sizes = permit::permissions_sized(permissions);
+    let sizes = permit::permissions_sized(width, permissions);
     let no = tables::arrival_refusal(phys, phy, sizes, room, READY);
     if no != 0 {
         return no;
@@ -73,12 +90,12 @@ fn frame_refusal(phys: &[u8], permissions: &[u8], phy: PhyNumber, arrived: &[u8]
 }
 
 // Whether the source may reach phy i's group, and it is ready. Most phys are, so that is asked last.
-fn is_permitted(phys: &[u8], permissions: &[u8], source: ZoneGroup, i: usize) -> bool
-    requires { ⌜ (length (now permissions) ≡ 2048) × (source .0 < 128) × (i < phyCount (now phys)) ⌝ }
-    ensures { λ r. ⌜ r ≡ permitted (now (phys .entry)) (now (permissions .entry)) (source .0) i ⌝ }
+fn is_permitted(width: usize, phys: &[u8], permissions: &[u8], source: ZoneGroup, i: usize) -> bool
+    requires { ⌜ Table width (now permissions) × (i < phyCount (now phys)) ⌝ }
+    ensures { λ r. ⌜ r ≡ permitted width (now (phys .entry)) (now (permissions .entry)) (source .0) i ⌝ }
 {
     let group = wire::group_of(phys[tables::PHY_RECORD * i + 1]);
-    if !permit::permitted(permissions, source, group) {
+    if !permit::permitted(width, permissions, source, group) {
         return false;
     }
     phys[tables::PHY_RECORD * i + 2] % 2 == 1
@@ -111,6 +128,7 @@ fn met(phys: &[u8], next: &[u8; 129], address: u64, from: usize) -> bool
 // ports below it, those whose address goes to one slot are a chain: the slot holds one more than the last of them, `next` for each one
 // more than the one before it, 0 ends it. So phy i is compared with few of them. It becomes the last of its slot.
 fn is_told(
+    width: usize,
     phys: &[u8],
     permissions: &[u8],
     phy: PhyNumber,
@@ -120,10 +138,10 @@ fn is_told(
     slots: &mut [u8; 256],
     next: &mut [u8; 129],
 ) -> bool
-    requires { ⌜ Shelf (now phys) (now permissions) (phy .0) × (source .0 < 128) × (own ≡ phyAddress (now phys) (phy .0)) × (i < phyCount (now phys)) × Kept (now phys) (now permissions) (phy .0) (source .0) i (now slots) (now next) ⌝ }
-    ensures { λ r. ⌜ Judged (now (phys .entry)) (now (permissions .entry)) (phy .0) (source .0) i (now (slots .exit)) (now (next .exit)) r ⌝ }
+    requires { ⌜ Shelf width (now phys) (now permissions) (phy .0) × (own ≡ phyAddress (now phys) (phy .0)) × (i < phyCount (now phys)) × Kept width (now phys) (now permissions) (phy .0) (source .0) i (now slots) (now next) ⌝ }
+    ensures { λ r. ⌜ Judged width (now (phys .entry)) (now (permissions .entry)) (phy .0) (source .0) i (now (slots .exit)) (now (next .exit)) r ⌝ }
 {
-    if !is_permitted(phys, permissions, source, i) {
+    if !is_permitted(width, phys, permissions, source, i) {
         return false;
     }
     let address = wire::address_at(phys, tables::PHY_RECORD * i + 4);
@@ -153,6 +171,7 @@ fn byte_end(k: usize, count: usize) -> usize
 
 // Byte k of the set, upwards, since a phy is held against the lower ones.
 fn told_byte(
+    width: usize,
     phys: &[u8],
     permissions: &[u8],
     phy: PhyNumber,
@@ -162,15 +181,15 @@ fn told_byte(
     slots: &mut [u8; 256],
     next: &mut [u8; 129],
 ) -> u8
-    requires { ⌜ Shelf (now phys) (now permissions) (phy .0) × (source .0 < 128) × (own ≡ phyAddress (now phys) (phy .0)) × (8 * k < phyCount (now phys)) × Kept (now phys) (now permissions) (phy .0) (source .0) (8 * k) (now slots) (now next) ⌝ }
-    ensures { λ r. ⌜ ByteTold (now (phys .entry)) (now (permissions .entry)) (phy .0) (source .0) k (now (slots .exit)) (now (next .exit)) r ⌝ }
+    requires { ⌜ Shelf width (now phys) (now permissions) (phy .0) × (own ≡ phyAddress (now phys) (phy .0)) × (8 * k < phyCount (now phys)) × Kept width (now phys) (now permissions) (phy .0) (source .0) (8 * k) (now slots) (now next) ⌝ }
+    ensures { λ r. ⌜ ByteTold width (now (phys .entry)) (now (permissions .entry)) (phy .0) (source .0) k (now (slots .exit)) (now (next .exit)) r ⌝ }
 {
     let end = byte_end(k, phys.len() / tables::PHY_RECORD);
     let mut byte: u16 = 0;
     let mut bit: u16 = 1;
     let mut i = 8 * k;
     while i < end {
-        let told = is_told(phys, permissions, phy, own, source, i, slots, next);
+        let told = is_told(width, phys, permissions, phy, own, source, i, slots, next);
         if told {
             byte += bit;
         }
@@ -182,14 +201,15 @@ fn told_byte(
 
 // The set of the phys that are told. Past the byte of the last phy it stays empty.
 fn write_told_set(
+    width: usize,
     phys: &[u8],
     permissions: &[u8],
     phy: PhyNumber,
     source: ZoneGroup,
     set: &mut [u8],
 )
-    requires { ⌜ Shelf (now phys) (now permissions) (phy .0) × (source .0 < 128) × (16 ≤ length (now set)) ⌝ }
-    ensures { λ _. ⌜ now (set .exit) ≡ toldSet (now (phys .entry)) (now (permissions .entry)) (phy .0) (source .0) ++ drop 16 (now (set .entry)) ⌝ }
+    requires { ⌜ Shelf width (now phys) (now permissions) (phy .0) × (16 ≤ length (now set)) ⌝ }
+    ensures { λ _. ⌜ now (set .exit) ≡ toldSet width (now (phys .entry)) (now (permissions .entry)) (phy .0) (source .0) ++ drop 16 (now (set .entry)) ⌝ }
 {
     let own = tables::phy_address(phys, phy);
     let count = phys.len() / tables::PHY_RECORD;
@@ -199,6 +219,7 @@ fn write_told_set(
     let mut k: usize = 0;
     while 8 * k < count {
         set[k] = told_byte(
+            width,
             phys,
             permissions,
             phy,
@@ -226,8 +247,10 @@ fn write_frame(number: u8, source: ZoneGroup, frame: &mut [u8])
     frame[3] = source.0;
 }
 
-// What both calls do where nothing is refused.
+// What both calls do where nothing is refused. A group is below 128: said once more to the compiler, it knows that document 01's table holds
+// the source, and asks that of no phy.
 fn announce(
+    width: usize,
     phys: &[u8],
     permissions: &[u8],
     phy: PhyNumber,
@@ -236,16 +259,18 @@ fn announce(
     set: &mut [u8],
     frame: &mut [u8],
 ) -> u8
-    requires { ⌜ Lent (now phys) (now permissions) (phy .0) (now set) (now frame) × (source .0 < 128) × (number < 8) ⌝ }
-    ensures { λ r. ⌜ Announced (now (phys .entry)) (now (permissions .entry)) (phy .0) (source .0) number (now (set .entry)) (now (frame .entry)) r (now (set .exit)) (now (frame .exit)) ⌝ }
+    requires { ⌜ Lent width (now phys) (now permissions) (phy .0) (now set) (now frame) × (source .0 < 128) × (number < 8) ⌝ }
+    ensures { λ r. ⌜ Announced width (now (phys .entry)) (now (permissions .entry)) (phy .0) (source .0) number (now (set .entry)) (now (frame .entry)) r (now (set .exit)) (now (frame .exit)) ⌝ }
 {
-    write_told_set(phys, permissions, phy, source, set);
-    write_frame(number, source, frame);
+    let group = wire::group_of(source.0);
+    write_told_set(width, phys, permissions, phy, group, set);
+    write_frame(number, group, frame);
     wire::phys_in(set)
 }
 
 // A primitive that is not refused: the phy record's group is speaking.
 fn relay_primitive(
+    width: usize,
     phys: &[u8],
     permissions: &[u8],
     phy: PhyNumber,
@@ -253,15 +278,16 @@ fn relay_primitive(
     set: &mut [u8],
     frame: &mut [u8],
 ) -> u8
-    requires { ⌜ Lent (now phys) (now permissions) (phy .0) (now set) (now frame) × (number < 8) ⌝ }
-    ensures { λ r. ⌜ Announced (now (phys .entry)) (now (permissions .entry)) (phy .0) (phyGroup (now (phys .entry)) (phy .0)) number (now (set .entry)) (now (frame .entry)) r (now (set .exit)) (now (frame .exit)) ⌝ }
+    requires { ⌜ Lent width (now phys) (now permissions) (phy .0) (now set) (now frame) × (number < 8) ⌝ }
+    ensures { λ r. ⌜ Announced width (now (phys .entry)) (now (permissions .entry)) (phy .0) (phyGroup (now (phys .entry)) (phy .0)) number (now (set .entry)) (now (frame .entry)) r (now (set .exit)) (now (frame .exit)) ⌝ }
 {
     let source = tables::phy_group(phys, phy);
-    announce(phys, permissions, phy, source, number, set, frame)
+    announce(width, phys, permissions, phy, source, number, set, frame)
 }
 
 // A frame that is not refused: the group carried in its byte 3 is speaking.
 fn relay_frame(
+    width: usize,
     phys: &[u8],
     permissions: &[u8],
     phy: PhyNumber,
@@ -269,15 +295,36 @@ fn relay_frame(
     set: &mut [u8],
     frame: &mut [u8],
 ) -> u8
-    requires { ⌜ Lent (now phys) (now permissions) (phy .0) (now set) (now frame) × (4 ≤ length (now arrived)) ⌝ }
-    ensures { λ r. ⌜ Announced (now (phys .entry)) (now (permissions .entry)) (phy .0) (frameSource (now (arrived .entry))) (frameNumber (now (arrived .entry))) (now (set .entry)) (now (frame .entry)) r (now (set .exit)) (now (frame .exit)) ⌝ }
+    requires { ⌜ Lent width (now phys) (now permissions) (phy .0) (now set) (now frame) × (4 ≤ length (now arrived)) ⌝ }
+    ensures { λ r. ⌜ Announced width (now (phys .entry)) (now (permissions .entry)) (phy .0) (frameSource (now (arrived .entry))) (frameNumber (now (arrived .entry))) (now (set .entry)) (now (frame .entry)) r (now (set .exit)) (now (frame .exit)) ⌝ }
 {
     let source = wire::outside_group(arrived[3]);
     let number = arrived[0] / 16 % 8;
-    announce(phys, permissions, phy, source, number, set, frame)
+    announce(width, phys, permissions, phy, source, number, set, frame)
 }
 
-// A primitive arrives on a phy.
+// A primitive arrives on a phy; the permission table has rows of `width` bytes.
+pub fn primitive_at(
+    width: usize,
+    phys: &[u8],
+    permissions: &[u8],
+    phy: PhyNumber,
+    number: u8,
+    set: &mut [u8],
+    frame: &mut [u8],
+) -> Told
+    requires { ⌜ Width width ⌝ }
+    ensures { λ r. ⌜ out (toldAs r) (now (set .exit) ∷ now (frame .exit) ∷ []) ≡ primitiveOut width (now (phys .entry)) (now (permissions .entry)) (phy .0) number (now (set .entry)) (now (frame .entry)) ⌝ }
+{
+    let room = (16 <= set.len()) & (28 <= frame.len());
+    let no = primitive_refusal(width, phys, permissions, phy, number, room);
+    if no != 0 {
+        return Told::Refused(no);
+    }
+    Told::Count(relay_primitive(width, phys, permissions, phy, number, set, frame))
+}
+
+// A primitive arrives on a phy; the table is document 01's.
 pub fn primitive(
     phys: &[u8],
     permissions: &[u8],
@@ -286,17 +333,33 @@ pub fn primitive(
     set: &mut [u8],
     frame: &mut [u8],
 ) -> Told
-    ensures { λ r. ⌜ out (toldAs r) (now (set .exit) ∷ now (frame .exit) ∷ []) ≡ primitiveOut (now (phys .entry)) (now (permissions .entry)) (phy .0) number (now (set .entry)) (now (frame .entry)) ⌝ }
+    ensures { λ r. ⌜ out (toldAs r) (now (set .exit) ∷ now (frame .exit) ∷ []) ≡ primitiveOut 16 (now (phys .entry)) (now (permissions .entry)) (phy .0) number (now (set .entry)) (now (frame .entry)) ⌝ }
+{
+    primitive_at(16, phys, permissions, phy, number, set, frame)
+}
+
+// A broadcast frame arrives on a phy; the permission table has rows of `width` bytes.
+pub fn broadcast_frame_at(
+    width: usize,
+    phys: &[u8],
+    permissions: &[u8],
+    phy: PhyNumber,
+    arrived: &[u8],
+    set: &mut [u8],
+    frame: &mut [u8],
+) -> Told
+    requires { ⌜ Width width ⌝ }
+    ensures { λ r. ⌜ out (toldAs r) (now (set .exit) ∷ now (frame .exit) ∷ []) ≡ broadcastOut width (now (phys .entry)) (now (permissions .entry)) (phy .0) (now (arrived .entry)) (now (set .entry)) (now (frame .entry)) ⌝ }
 {
     let room = (16 <= set.len()) & (28 <= frame.len());
-    let no = primitive_refusal(phys, permissions, phy, number, room);
+    let no = frame_refusal(width, phys, permissions, phy, arrived, room);
     if no != 0 {
         return Told::Refused(no);
     }
-    Told::Count(relay_primitive(phys, permissions, phy, number, set, frame))
+    Told::Count(relay_frame(width, phys, permissions, phy, arrived, set, frame))
 }
 
-// A broadcast frame arrives on a phy.
+// A broadcast frame arrives on a phy; the table is document 01's.
 pub fn broadcast_frame(
     phys: &[u8],
     permissions: &[u8],
@@ -305,12 +368,7 @@ pub fn broadcast_frame(
     set: &mut [u8],
     frame: &mut [u8],
 ) -> Told
-    ensures { λ r. ⌜ out (toldAs r) (now (set .exit) ∷ now (frame .exit) ∷ []) ≡ broadcastOut (now (phys .entry)) (now (permissions .entry)) (phy .0) (now (arrived .entry)) (now (set .entry)) (now (frame .entry)) ⌝ }
+    ensures { λ r. ⌜ out (toldAs r) (now (set .exit) ∷ now (frame .exit) ∷ []) ≡ broadcastOut 16 (now (phys .entry)) (now (permissions .entry)) (phy .0) (now (arrived .entry)) (now (set .entry)) (now (frame .entry)) ⌝ }
 {
-    let room = (16 <= set.len()) & (28 <= frame.len());
-    let no = frame_refusal(phys, permissions, phy, arrived, room);
-    if no != 0 {
-        return Told::Refused(no);
-    }
-    Told::Count(relay_frame(phys, permissions, phy, arrived, set, frame))
+    broadcast_frame_at(16, phys, permissions, phy, arrived, set, frame)
 }

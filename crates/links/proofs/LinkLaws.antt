@@ -4,18 +4,20 @@ use mathlib.Core.Path.{_≡_, sym, ap, _∙_}
 use mathlib.Core.Bool.{Bool, true, false, cond, not, _&&_}
 use mathlib.Core.List.{List}
 use Prim.Native.Nat.{ℕ, _+_, _*_}
-use borrow.Author.Tests.{eqb-true, not-true, not-false}
+use borrow.Author.Tests.{not-true, not-false}
 use lib.Dec.{eqb}
 use lib.ListN.{length, set, length-set}
 use lib.Seq.{paste}
+use Rattle.permit.specs.Permission.{Width, Table}
+use Rattle.permit.proofs.Laws.{table-sized}
 use Rattle.tables.specs.Phys.{phyRecord}
 use Rattle.tables.specs.Refusals.{firstRefusal}
 use Rattle.tables.proofs.RefusalLaws.{clear}
 use Rattle.links.specs.Links.{startUpChecks, unzoned, identified}
 
 -- ---- `start_up`: where nothing is refused, the table has its size
-pub sized : (permissions : List ℕ) (r : ℕ) → r ≡ firstRefusal (startUpChecks permissions) → r ≡ 0 → length permissions ≡ 2048
-sized permissions r e z = eqb-true _ _ (not-false _ (clear (startUpChecks permissions) r e z tt .0))
+pub sized : (w : ℕ) (permissions : List ℕ) (r : ℕ) → Width w → r ≡ firstRefusal (startUpChecks w permissions) → r ≡ 0 → Table w permissions
+sized w permissions r h e z = table-sized w permissions h (not-false _ (clear (startUpChecks w permissions) r e z tt .0))
 
 -- ---- rows on an address: the callee's result x is v, and x was tested
 pub same-as : {x v w : ℕ} → x ≡ v → x ≡ w → v ≡ w

@@ -20,12 +20,12 @@ linkedAs (Refused n) = refusal n
 linkedAs Done = answer []
 
 -- start-up: refusal 1
-abbrev pub startUpChecks : List ℕ → List Check
-startUpChecks permissions = refuse 1 (off (permissionsSized 16 permissions)) ∷ []
+abbrev pub startUpChecks : ℕ → List ℕ → List Check
+startUpChecks w permissions = refuse 1 (off (permissionsSized w permissions)) ∷ []
 
 -- "Start-up writes the permission table"; the buffers: the permission table
-abbrev pub startUpOut : List ℕ → Out
-startUpOut permissions = outcome (firstRefusal (startUpChecks permissions)) [] (permissions ∷ []) (startTable 16 ∷ [])
+abbrev pub startUpOut : ℕ → List ℕ → Out
+startUpOut w permissions = outcome (firstRefusal (startUpChecks w permissions)) [] (permissions ∷ []) (startTable w ∷ [])
 
 -- leaving: refusals 1, 2, 7; it uses no other table and writes no buffer
 abbrev pub leavingChecks : List ℕ → ℕ → List Check

@@ -9,6 +9,7 @@ use wire::PhyNumber;
 ghost use mathlib.Core.Path.{_≡_};
 ghost use mathlib.Core.List.{[], _∷_};
 ghost use Prim.Native.Nat.{_<_};
+ghost use Rattle.permit.specs.Permission.{Width};
 ghost use Rattle.tables.specs.Phys.{phyCount};
 ghost use Rattle.tables.specs.Refusals.{firstRefusal};
 ghost use Rattle.tables.specs.Outcome.{out};
@@ -23,25 +24,34 @@ pub enum Linked {
 }
 
 // The refusal of start-up.
-fn start_up_refusal(permissions: &[u8]) -> u8
-    ensures { λ r. ⌜ r ≡ firstRefusal (startUpChecks (now (permissions .entry))) ⌝ }
+fn start_up_refusal(width: usize, permissions: &[u8]) -> u8
+    requires { ⌜ Width width ⌝ }
+    ensures { λ r. ⌜ r ≡ firstRefusal (startUpChecks width (now (permissions .entry))) ⌝ }
 {
-    if !permit::permissions_sized(permissions) {
+    if !permit::permissions_sized(width, permissions) {
         return WRONG_SIZE;
     }
     0
 }
 
 // Start-up: the permission table as it stands before any order.
-pub fn start_up(permissions: &mut [u8]) -> Linked
-    ensures { λ r. ⌜ out (linkedAs r) (now (permissions .exit) ∷ []) ≡ startUpOut (now (permissions .entry)) ⌝ }
+pub fn start_up_at(width: usize, permissions: &mut [u8]) -> Linked
+    requires { ⌜ Width width ⌝ }
+    ensures { λ r. ⌜ out (linkedAs r) (now (permissions .exit) ∷ []) ≡ startUpOut width (now (permissions .entry)) ⌝ }
 {
-    let no = start_up_refusal(permissions);
+    let no = start_up_refusal(width, permissions);
     if no != 0 {
         return Linked::Refused(no);
     }
-    permit::start_table(permissions);
+    permit::start_table(width, permissions);
     Linked::Done
+}
+
+// Document 01's shelf.
+pub fn start_up(permissions: &mut [u8]) -> Linked
+    ensures { λ r. ⌜ out (linkedAs r) (now (permissions .exit) ∷ []) ≡ startUpOut 16 (now (permissions .entry)) ⌝ }
+{
+    start_up_at(16, permissions)
 }
 
 // Byte 2 keeps only that the address is known: the disk may come back.

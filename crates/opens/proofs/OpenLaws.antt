@@ -8,7 +8,7 @@ use native.Mathlib.Omega.{arith}
 use lib.ListN.{getD}
 use Rattle.wire.specs.declared.PhyNumber.{PhyNumber}
 use Rattle.wire.specs.declared.ZoneGroup.{ZoneGroup}
-use Rattle.permit.specs.Permission.{P}
+use Rattle.permit.specs.Permission.{reaches}
 use Rattle.tables.specs.Phys.{phyGroup, participating}
 use Rattle.tables.specs.Ports.{samePort}
 use Rattle.opens.specs.declared.Found.{Found}
@@ -27,13 +27,13 @@ unfolding openSource
 source-lt phys phy frame = source-cond (participating phys phy) (getD frame 20 0 % 128) (phyGroup phys phy) (omega arith) (omega arith)
 
 -- ---- a frame that is forwarded
-module _ (phys permissions : List ℕ) (phy : ℕ) (frame : List ℕ) (p : PhyNumber) where
+module _ (w : ℕ) (phys permissions : List ℕ) (phy : ℕ) (frame : List ℕ) (p : PhyNumber) where
   -- it went out on p by the finding f
   abbrev Reached : Found → Type 0
   Reached f =
-      (g : ZoneGroup) × (f ≡ At p g) × (P 16 permissions (openSource phys phy frame) (g .0) ≡ true) × (samePort phys phy (p .0) ≡ false)
+      (g : ZoneGroup) × (f ≡ At p g) × (reaches w permissions (openSource phys phy frame) (g .0) ≡ true) × (samePort phys phy (p .0) ≡ false)
 
-  by-tests : (q : PhyNumber) (g : ZoneGroup) (a b : Bool) → samePort phys phy (q .0) ≡ a → P 16 permissions (openSource phys phy frame) (g .0) ≡ b
+  by-tests : (q : PhyNumber) (g : ZoneGroup) (a b : Bool) → samePort phys phy (q .0) ≡ a → reaches w permissions (openSource phys phy frame) (g .0) ≡ b
       → cond a BadDestination (cond b (Forward q) ZoneViolation) ≡ Forward p → Reached (At q g)
   by-tests q g true b ea eb e = let z : _≡_ {A = ℕ} 0 1 = cc in absurd (omega arith)
   by-tests q g false false ea eb e = let z : _≡_ {A = ℕ} 0 1 = cc in absurd (omega arith)
@@ -41,23 +41,23 @@ module _ (phys permissions : List ℕ) (phy : ℕ) (frame : List ℕ) (p : PhyNu
       let s : q ≡ p = cc in
       (g, ap (λ (x : PhyNumber). At x g) s, eb, ap (λ (x : PhyNumber). samePort phys phy (x .0)) (sym s) ∙ ea)
 
-  reached : (f : Found) → judge phys permissions phy frame f ≡ Forward p → Reached f
+  reached : (f : Found) → judge w phys permissions phy frame f ≡ Forward p → Reached f
   unfolding judge
   reached Nothing e = let z : _≡_ {A = ℕ} 0 1 = cc in absurd (omega arith)
-  reached (At q g) e = by-tests q g (samePort phys phy (q .0)) (P 16 permissions (openSource phys phy frame) (g .0)) refl refl e
+  reached (At q g) e = by-tests q g (samePort phys phy (q .0)) (reaches w permissions (openSource phys phy frame) (g .0)) refl refl e
 
-module _ (phys routes permissions : List ℕ) (phy : ℕ) (frame : List ℕ) where
+module _ (w : ℕ) (phys routes permissions : List ℕ) (phy : ℕ) (frame : List ℕ) where
   -- the phy that the search found, by a permission that is on, and not back to the arriving phy's port
-  pub forward-permitted : (p : PhyNumber) → opened phys routes permissions phy frame ≡ Forward p
-      → (g : ZoneGroup) × (search phys routes frame ≡ At p g) × (P 16 permissions (openSource phys phy frame) (g .0) ≡ true) × (samePort phys phy (p .0) ≡ false)
-  forward-permitted p e = reached phys permissions phy frame p (search phys routes frame) e
+  pub forward-permitted : (p : PhyNumber) → opened w phys routes permissions phy frame ≡ Forward p
+      → (g : ZoneGroup) × (search phys routes frame ≡ At p g) × (reaches w permissions (openSource phys phy frame) (g .0) ≡ true) × (samePort phys phy (p .0) ≡ false)
+  forward-permitted p e = reached w phys permissions phy frame p (search phys routes frame) e
 
   -- where the permission is off nothing is forwarded, on no phy
-  pub barred : (p : PhyNumber) (g : ZoneGroup) → search phys routes frame ≡ At p g → P 16 permissions (openSource phys phy frame) (g .0) ≡ false
-      → (q : PhyNumber) → opened phys routes permissions phy frame ≡ Forward q → ⊥
+  pub barred : (p : PhyNumber) (g : ZoneGroup) → search phys routes frame ≡ At p g → reaches w permissions (openSource phys phy frame) (g .0) ≡ false
+      → (q : PhyNumber) → opened w phys routes permissions phy frame ≡ Forward q → ⊥
   barred p g s off q e =
       let r = forward-permitted q e in
       let same : g ≡ r .0 = cc (r .1) in
-      let on : P 16 permissions (openSource phys phy frame) (g .0) ≡ true = ap (λ (x : ZoneGroup). P 16 permissions (openSource phys phy frame) (x .0)) same ∙ r .2 in
+      let on : reaches w permissions (openSource phys phy frame) (g .0) ≡ true = ap (λ (x : ZoneGroup). reaches w permissions (openSource phys phy frame) (x .0)) same ∙ r .2 in
       let z : _≡_ {A = ℕ} 0 1 = cc in
       omega arith

@@ -10,7 +10,8 @@ use mir.Syntax.{w8}
 use mir.Val.{Fits}
 use lib.ListN.{length, getD, set, drop}
 use lib.Seq.{paste, take-all, set-append-left}
-use Rattle.permit.specs.Permission.{permissionsSized, P}
+use Rattle.permit.specs.Permission.{permissionsSized, reaches, Width, Table}
+use Rattle.permit.proofs.Laws.{table-sized}
 use Rattle.tables.specs.Refusals.{firstRefusal}
 use Rattle.tables.specs.Outcome.{answer, out}
 use Rattle.tables.proofs.OutcomeLaws.{gives}
@@ -43,9 +44,6 @@ source-carried phys phy frame b x e t ex = rw (sym e ∙ not-false b t) ex
 pub source-own : (phys : List ℕ) (phy : ℕ) (frame : List ℕ) (b : Bool) (x : ℕ) → b ≡ participating phys phy → not b ≡ true → x ≡ phyGroup phys phy → x ≡ openSource phys phy frame
 unfolding openSource
 source-own phys phy frame b x e t ex = rw (sym e ∙ not-true b t) ex
-
-pub source-small : (phys : List ℕ) (phy : ℕ) (frame : List ℕ) (s : ℕ) → s ≡ openSource phys phy frame → s < 128
-source-small phys phy frame s e = omega (arith, source-lt phys phy frame)
 
 -- ---- byte20
 pub carried-fits : (phys : List ℕ) (phy : ℕ) (frame : List ℕ) (s x : ℕ) → s ≡ openSource phys phy frame → x < 256 → Fits w8 (x / 128 * 128 + s)
@@ -82,17 +80,17 @@ write-end frame s₀ s x l e =
     ∙ set-append-left frame (drop 28 s₀) 20 x (omega arith)
 
 -- ---- admit
-module _ (phys permissions : List ℕ) (phy : ℕ) (frame : List ℕ) (p : PhyNumber) (g : ZoneGroup) (o : Bool) (eo : o ≡ samePort phys phy (p .0)) where
-  pub admit-bad : o ≡ true → BadDestination ≡ judge phys permissions phy frame (At p g)
+module _ (w : ℕ) (phys permissions : List ℕ) (phy : ℕ) (frame : List ℕ) (p : PhyNumber) (g : ZoneGroup) (o : Bool) (eo : o ≡ samePort phys phy (p .0)) where
+  pub admit-bad : o ≡ true → BadDestination ≡ judge w phys permissions phy frame (At p g)
   unfolding judge
   admit-bad h = rw (sym eo ∙ h)
 
-  module _ (n : o ≡ false) (s : ℕ) (es : s ≡ openSource phys phy frame) (b : Bool) (eb : b ≡ P 16 permissions s (g .0)) where
-    pub admit-violation : not b ≡ true → ZoneViolation ≡ judge phys permissions phy frame (At p g)
+  module _ (n : o ≡ false) (s : ℕ) (es : s ≡ openSource phys phy frame) (b : Bool) (eb : b ≡ reaches w permissions s (g .0)) where
+    pub admit-violation : not b ≡ true → ZoneViolation ≡ judge w phys permissions phy frame (At p g)
     unfolding judge
     admit-violation h = rw (sym eo ∙ n, ← es, sym eb ∙ not-true b h)
 
-    pub admit-forward : not b ≡ false → Forward p ≡ judge phys permissions phy frame (At p g)
+    pub admit-forward : not b ≡ false → Forward p ≡ judge w phys permissions phy frame (At p g)
     unfolding judge
     admit-forward h = rw (sym eo ∙ n, ← es, sym eb ∙ not-false b h)
 
@@ -108,17 +106,17 @@ answered true b p = refl
 answered false true p = refl
 answered false false p = refl
 
-pub judged : (phys permissions : List ℕ) (phy : ℕ) (frame : List ℕ) (f : Found) → openedAs (judge phys permissions phy frame f) ≡ answer (valuesOf (judge phys permissions phy frame f))
+pub judged : (w : ℕ) (phys permissions : List ℕ) (phy : ℕ) (frame : List ℕ) (f : Found) → openedAs (judge w phys permissions phy frame f) ≡ answer (valuesOf (judge w phys permissions phy frame f))
 unfolding judge
-judged phys permissions phy frame Nothing = refl
-judged phys permissions phy frame (At p g) = answered (samePort phys phy (p .0)) (P 16 permissions (openSource phys phy frame) (g .0)) p
+judged w phys permissions phy frame Nothing = refl
+judged w phys permissions phy frame (At p g) = answered (samePort phys phy (p .0)) (reaches w permissions (openSource phys phy frame) (g .0)) p
 
 -- n is the number that the checks answered, f what the search gave
-module _ (phys routes permissions : List ℕ) (phy : ℕ) (frame buffer : List ℕ) (n : ℕ) (e : n ≡ firstRefusal (openChecks phys routes permissions phy frame (roomFor buffer))) (z : n ≡ 0) where
+module _ (w : ℕ) (phys routes permissions : List ℕ) (phy : ℕ) (frame buffer : List ℕ) (n : ℕ) (e : n ≡ firstRefusal (openChecks w phys routes permissions phy frame (roomFor buffer))) (z : n ≡ 0) where
   -- where nothing is refused
-  clears : Arrived phys phy (routesSized routes && permissionsSized 16 permissions) (roomFor buffer) true × (length frame ≡ 28)
+  clears : Arrived phys phy (routesSized routes && permissionsSized w permissions) (roomFor buffer) true × (length frame ≡ 28)
   clears =
-      let k = arrival-clear phys phy (routesSized routes && permissionsSized 16 permissions) (roomFor buffer) true _ n e z tt in
+      let k = arrival-clear phys phy (routesSized routes && permissionsSized w permissions) (roomFor buffer) true _ n e z tt in
       (k .0, k .1 .0)
 
   pub open-most : length phys ≤ 128 * phyRecord
@@ -127,8 +125,8 @@ module _ (phys routes permissions : List ℕ) (phy : ℕ) (frame buffer : List �
   pub open-there : phy < phyCount phys
   open-there = clears .0 .there
 
-  pub open-whole : length permissions ≡ 2048
-  open-whole = eqb-true _ _ (both (routesSized routes) (permissionsSized 16 permissions) (clears .0 .sized) .1)
+  pub open-table : Width w → Table w permissions
+  open-table h = table-sized w permissions h (both (routesSized routes) (permissionsSized w permissions) (clears .0 .sized) .1)
 
   pub open-frame : length frame ≡ 28
   open-frame = clears .1
@@ -137,14 +135,14 @@ module _ (phys routes permissions : List ℕ) (phy : ℕ) (frame buffer : List �
   open-room = leb-true _ _ (clears .0 .roomy)
 
   module _ (f : Found) (ef : f ≡ search phys routes frame) where
-    pub open-none : f ≡ Nothing → out (openedAs NoDestination) (buffer ∷ []) ≡ openOut phys routes permissions phy frame buffer
+    pub open-none : f ≡ Nothing → out (openedAs NoDestination) (buffer ∷ []) ≡ openOut w phys routes permissions phy frame buffer
     unfolding judge sent
     open-none h =
         let s : search phys routes frame ≡ Nothing = sym ef ∙ h in
         gives _ _ n _ _ _ _ e z (rw s) (rw s)
 
-    pub open-to : (p : PhyNumber) (g : ZoneGroup) (r : Opened) (after : List ℕ) → f ≡ At p g → r ≡ judge phys permissions phy frame (At p g) → after ≡ sent phys phy frame buffer r
-        → out (openedAs r) (after ∷ []) ≡ openOut phys routes permissions phy frame buffer
+    pub open-to : (p : PhyNumber) (g : ZoneGroup) (r : Opened) (after : List ℕ) → f ≡ At p g → r ≡ judge w phys permissions phy frame (At p g) → after ≡ sent phys phy frame buffer r
+        → out (openedAs r) (after ∷ []) ≡ openOut w phys routes permissions phy frame buffer
     open-to p g r after h er ea =
         let s : search phys routes frame ≡ At p g = sym ef ∙ h in
-        gives _ _ n _ _ _ _ e z (rw (er, s) (judged phys permissions phy frame (At p g))) (rw (ea, er, s))
+        gives _ _ n _ _ _ _ e z (rw (er, s) (judged w phys permissions phy frame (At p g))) (rw (ea, er, s))

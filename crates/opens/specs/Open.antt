@@ -6,7 +6,7 @@ use lib.Dec.{ltb, leb}
 use lib.ListN.{length, getD, set, drop}
 use Rattle.wire.specs.Bits.{num}
 use Rattle.wire.specs.Groups.{groupOf}
-use Rattle.permit.specs.Permission.{permissionsSized, P}
+use Rattle.permit.specs.Permission.{permissionsSized, reaches}
 use Rattle.tables.specs.Refusals.{Check, refuse, differ, firstRefusal}
 use Rattle.tables.specs.Outcome.{Answer, refusal, answer, Out, outcome}
 use Rattle.tables.specs.Phys.{phyGroup, phyPriority, participating}
@@ -39,9 +39,9 @@ abbrev pub roomFor : List ℕ → Bool
 roomFor buffer = leb 28 (length buffer)
 
 -- refusals 1, 2, 3, 7, and 4 ("OPEN not 28"), 5 ("OPEN type not 1h")
-abbrev pub openChecks : List ℕ → List ℕ → List ℕ → ℕ → List ℕ → Bool → List Check
-openChecks phys routes permissions phy frame room =
-    arrivalChecks phys phy (routesSized routes && permissionsSized 16 permissions) room true
+abbrev pub openChecks : ℕ → List ℕ → List ℕ → List ℕ → ℕ → List ℕ → Bool → List Check
+openChecks w phys routes permissions phy frame room =
+    arrivalChecks phys phy (routesSized routes && permissionsSized w permissions) room true
     ++ refuse 4 (differ (length frame) 28)
     ∷ refuse 5 (differ (getD frame 0 0 % 16) 1)
     ∷ []
@@ -52,15 +52,15 @@ unfoldable pub openSource : List ℕ → ℕ → List ℕ → ℕ
 openSource phys phy frame = cond (participating phys phy) (groupOf (getD frame 20 0)) (phyGroup phys phy)
 
 -- "Outcomes in order": 1 and 2, 3, 4. "BAD DESTINATION is given when the phy found is in the arriving phy's port."
-unfoldable pub judge : List ℕ → List ℕ → ℕ → List ℕ → Found → Opened
-judge phys permissions phy frame Nothing = NoDestination
-judge phys permissions phy frame (At p g) =
+unfoldable pub judge : ℕ → List ℕ → List ℕ → ℕ → List ℕ → Found → Opened
+judge w phys permissions phy frame Nothing = NoDestination
+judge w phys permissions phy frame (At p g) =
     cond (samePort phys phy (p .0)) BadDestination
-    (cond (P 16 permissions (openSource phys phy frame) (g .0)) (Forward p) ZoneViolation)
+    (cond (reaches w permissions (openSource phys phy frame) (g .0)) (Forward p) ZoneViolation)
 
 -- the outcome of an OPEN that is not refused
-abbrev pub opened : List ℕ → List ℕ → List ℕ → ℕ → List ℕ → Opened
-opened phys routes permissions phy frame = judge phys permissions phy frame (search phys routes frame)
+abbrev pub opened : ℕ → List ℕ → List ℕ → List ℕ → ℕ → List ℕ → Opened
+opened w phys routes permissions phy frame = judge w phys permissions phy frame (search phys routes frame)
 
 -- "bit 7 is the carried bit (from a participating phy) or is one exactly if the arriving phy's priority is above 0 (otherwise)"
 abbrev pub manages : List ℕ → ℕ → List ℕ → ℕ
@@ -79,9 +79,9 @@ sent phys phy frame buffer ZoneViolation = buffer
 sent phys phy frame buffer (Forward p) = set frame 20 (byte20 phys phy frame (p .0)) ++ drop 28 buffer
 
 -- the buffers: the frame buffer
-abbrev pub openOut : List ℕ → List ℕ → List ℕ → ℕ → List ℕ → List ℕ → Out
-openOut phys routes permissions phy frame buffer =
-    outcome (firstRefusal (openChecks phys routes permissions phy frame (roomFor buffer)))
-    (valuesOf (opened phys routes permissions phy frame))
+abbrev pub openOut : ℕ → List ℕ → List ℕ → List ℕ → ℕ → List ℕ → List ℕ → Out
+openOut w phys routes permissions phy frame buffer =
+    outcome (firstRefusal (openChecks w phys routes permissions phy frame (roomFor buffer)))
+    (valuesOf (opened w phys routes permissions phy frame))
     (buffer ∷ [])
-    (sent phys phy frame buffer (opened phys routes permissions phy frame) ∷ [])
+    (sent phys phy frame buffer (opened w phys routes permissions phy frame) ∷ [])

@@ -8,6 +8,7 @@ ghost use mathlib.Core.Path.{_≡_};
 ghost use mathlib.Core.List.{[], _∷_, _++_};
 ghost use Prim.Native.Nat.{_*_, _<_, _≤_};
 ghost use lib.ListN.{length, set, drop};
+ghost use Rattle.permit.specs.Permission.{Width, Table};
 ghost use Rattle.tables.specs.Refusals.{firstRefusal};
 ghost use Rattle.tables.specs.Phys.{phyRecord, phyCount};
 ghost use Rattle.tables.specs.Routes.{routeCount};
@@ -32,6 +33,7 @@ pub enum Opened {
 
 // The number of the refusal, or 0.
 fn open_refusal(
+    width: usize,
     phys: &[u8],
     routes: &[u8],
     permissions: &[u8],
@@ -39,9 +41,10 @@ fn open_refusal(
     frame: &[u8],
     room: bool,
 ) -> u8
-    ensures { λ r. ⌜ r ≡ firstRefusal (openChecks (now (phys .entry)) (now (routes .entry)) (now (permissions .entry)) (phy .0) (now (frame .entry)) room) ⌝ }
+    requires { ⌜ Width width ⌝ }
+    ensures { λ r. ⌜ r ≡ firstRefusal (openChecks width (now (phys .entry)) (now (routes .entry)) (now (permissions .entry)) (phy .0) (now (frame .entry)) room) ⌝ }
 {
-    let sizes = tables::routes_sized(routes) & permit::permissions_sized(permissions);
+    let sizes = tables::routes_sized(routes) & permit::permissions_sized(width, permissions);
     let no = tables::arrival_refusal(phys, phy, sizes, room, READY);
     if no != 0 {
         return no;
@@ -198,6 +201,7 @@ fn write_frame(frame: &[u8], byte: u8, buffer: &mut [u8])
 
 // What becomes of a frame for the phy p and the group g.
 fn admit(
+    width: usize,
     phys: &[u8],
     permissions: &[u8],
     phy: PhyNumber,
@@ -206,14 +210,14 @@ fn admit(
     g: ZoneGroup,
     buffer: &mut [u8],
 ) -> Opened
-    requires { ⌜ (phy .0 < phyCount (now phys)) × (length (now permissions) ≡ 2048) × (length (now frame) ≡ 28) × (28 ≤ length (now buffer)) × (p .0 < phyCount (now phys)) × (g .0 < 128) ⌝ }
-    ensures { λ r. ⌜ (r ≡ judge (now (phys .entry)) (now (permissions .entry)) (phy .0) (now (frame .entry)) (At p g)) × (now (buffer .exit) ≡ sent (now (phys .entry)) (phy .0) (now (frame .entry)) (now (buffer .entry)) r) ⌝ }
+    requires { ⌜ (phy .0 < phyCount (now phys)) × Table width (now permissions) × (length (now frame) ≡ 28) × (28 ≤ length (now buffer)) × (p .0 < phyCount (now phys)) ⌝ }
+    ensures { λ r. ⌜ (r ≡ judge width (now (phys .entry)) (now (permissions .entry)) (phy .0) (now (frame .entry)) (At p g)) × (now (buffer .exit) ≡ sent (now (phys .entry)) (phy .0) (now (frame .entry)) (now (buffer .entry)) r) ⌝ }
 {
     if tables::same_port(phys, phy, p) {
         return Opened::BadDestination;
     }
     let source = open_source(phys, phy, frame);
-    if !permit::permitted(permissions, source, g) {
+    if !permit::permitted(width, permissions, source, g) {
         return Opened::ZoneViolation;
     }
     let byte = byte20(phys, phy, frame, source, p);
@@ -222,6 +226,37 @@ fn admit(
 }
 
 // An OPEN frame arrives on a phy.
+pub fn open_at(
+    width: usize,
+    phys: &[u8],
+    routes: &[u8],
+    permissions: &[u8],
+    phy: PhyNumber,
+    frame: &[u8],
+    buffer: &mut [u8],
+) -> Opened
+    requires { ⌜ Width width ⌝ }
+    ensures { λ r. ⌜ out (openedAs r) (now (buffer .exit) ∷ []) ≡ openOut width (now (phys .entry)) (now (routes .entry)) (now (permissions .entry)) (phy .0) (now (frame .entry)) (now (buffer .entry)) ⌝ }
+{
+    let no = open_refusal(
+        width,
+        phys,
+        routes,
+        permissions,
+        phy,
+        frame,
+        28 <= buffer.len(),
+    );
+    if no != 0 {
+        return Opened::Refused(no);
+    }
+    let Found::At(p, g) = search(phys, routes, frame) else {
+        return Opened::NoDestination;
+    };
+    admit(width, phys, permissions, phy, frame, p, g, buffer)
+}
+
+// Document 01's shelf.
 pub fn open(
     phys: &[u8],
     routes: &[u8],
@@ -230,14 +265,7 @@ pub fn open(
     frame: &[u8],
     buffer: &mut [u8],
 ) -> Opened
-    ensures { λ r. ⌜ out (openedAs r) (now (buffer .exit) ∷ []) ≡ openOut (now (phys .entry)) (now (routes .entry)) (now (permissions .entry)) (phy .0) (now (frame .entry)) (now (buffer .entry)) ⌝ }
+    ensures { λ r. ⌜ out (openedAs r) (now (buffer .exit) ∷ []) ≡ openOut 16 (now (phys .entry)) (now (routes .entry)) (now (permissions .entry)) (phy .0) (now (frame .entry)) (now (buffer .entry)) ⌝ }
 {
-    let no = open_refusal(phys, routes, permissions, phy, frame, 28 <= buffer.len());
-    if no != 0 {
-        return Opened::Refused(no);
-    }
-    let Found::At(p, g) = search(phys, routes, frame) else {
-        return Opened::NoDestination;
-    };
-    admit(phys, permissions, phy, frame, p, g, buffer)
+    open_at(16, phys, routes, permissions, phy, frame, buffer)
 }

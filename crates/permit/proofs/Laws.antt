@@ -5,10 +5,10 @@ use mathlib.Core.Bool.{Bool, true, false, cond, _&&_, _||_, and-comm, or-comm}
 use mathlib.Core.List.{List, append-nil}
 use mathlib.Core.Logic.{_⊎_, inl, inr, ⊎-elim}
 use Prim.Native.Nat.{ℕ, zero, suc, _+_, _-_, _*_, _/_, _%_, _^_, _≤_, _<_}
-use native.Mathlib.Nat.{zero-add, zero-div, mod-lt, div-add-mod', div-lt-iff-lt-mul}
+use native.Mathlib.Nat.{zero-add, zero-div, mod-lt, mul-le-mul, div-add-mod', div-lt-iff-lt-mul}
 use native.Mathlib.Decide.{decLt, ℕ-discrete}
 use native.Mathlib.Omega.{arith}
-use borrow.Author.Tests.{eq-eqb, ne-eqb}
+use borrow.Author.Tests.{eq-eqb, ne-eqb, eqb-true}
 use lib.Dec.{eqb}
 use lib.ListN.{length, getD, set, length-set, drop-of-length-le}
 use lib.Arith.{digits-lt, digits-div, digits-mod}
@@ -16,7 +16,7 @@ use lib.Seq.{getD-set-same, getD-set-other, set-out, ext-getD}
 use Rattle.wire.specs.Bits.{bit, setBit, tab}
 use Rattle.wire.proofs.BitLaws.{each8, eqb-num, bit-same, bit-other, bit-fits}
 use Rattle.wire.proofs.Loops.{length-tab, getD-tab}
-use Rattle.permit.specs.Permission.{groups, tableSize, place, P, setP, setBoth, startByte, startTable}
+use Rattle.permit.specs.Permission.{groups, tableSize, permissionsSized, place, P, setP, setBoth, startByte, startTable, Width, Table}
 use Rattle.permit.specs.History.{names}
 use Rattle.permit.specs.Rows.{Masked}
 use Rattle.permit.proofs.BitOps.{bits-ext, bit-ext}
@@ -29,6 +29,30 @@ in-row w j h = omega arith
 pub place-lt : (w a b : ℕ) → a < groups w → place w a b < tableSize w
 unfolding place
 place-lt w a b h = digits-lt h (in-row w b (omega arith))
+
+-- a row's bytes are within the table, which is never larger than document 01's
+pub row-ends : (w a : ℕ) → 0 < w → a < groups w → a * w + w ≤ tableSize w
+row-ends w a hw h =
+    let k : w - 1 < w = omega arith in
+    omega (arith, digits-lt h k)
+
+-- rows 0 and 1 are there
+pub two-rows : (w : ℕ) → 0 < w → w + w ≤ tableSize w
+two-rows w h = omega (arith, row-ends w 1 h (omega arith))
+
+pub row-small : (w a : ℕ) → w ≤ 16 → a < groups w → a * w ≤ 2048
+row-small w a hw h =
+    let l : a ≤ 128 = omega arith in
+    mul-le-mul l hw
+
+pub size-small : (w : ℕ) → w ≤ 16 → tableSize w ≤ 2048
+size-small w h =
+    let l : 8 * w ≤ 128 = omega arith in
+    mul-le-mul l h
+
+-- a table whose size was asked for
+pub table-sized : (w : ℕ) (t : List ℕ) → Width w → permissionsSized w t ≡ true → Table w t
+table-sized w t h e = record { some = h .some; most = h .most; sized = eqb-true _ _ e }
 
 pub place-div : (w a b : ℕ) → 0 < w → place w a b / w ≡ a
 unfolding place
@@ -56,10 +80,10 @@ unfolding setP
 length-setP w t a b v = length-set t (place w a b) _
 
 -- as the code writes it, by a mask
-pub set-masked : (w : ℕ) (t : List ℕ) (a b m x : ℕ) (v : Bool) → m ≡ 2 ^ (b % 8) → Masked (getD t (a * w + (w - 1 - b / 8)) 0) m v x
-    → set t (a * w + (w - 1 - b / 8)) x ≡ setP w t a b v
-unfolding setP place
-set-masked w t a b m x v e h = rw (h (b % 8) (omega arith) e)
+pub set-masked : (w : ℕ) (t : List ℕ) (a b i m x : ℕ) (v : Bool) → i ≡ place w a b → m ≡ 2 ^ (b % 8) → Masked (getD t i 0) m v x
+    → set t i x ≡ setP w t a b v
+unfolding setP
+set-masked w t a b i m x v ei e h = rw (h (b % 8) (omega arith) e, ei)
 
 pub P-same : (w : ℕ) (t : List ℕ) (a b : ℕ) (v : Bool) → length t ≡ tableSize w → a < groups w → P w (setP w t a b v) a b ≡ v
 unfolding P setP

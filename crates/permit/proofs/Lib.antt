@@ -4,3 +4,4 @@ pub mod HistoryLaws
 pub mod BatchLaws
 pub mod RowLaws
 pub mod StartLaws
+pub mod ReachLaws

@@ -146,10 +146,10 @@ module _ (w : ℕ) (t rows : List ℕ) (i r from : ℕ) (narrow : w ≤ 16) (hl 
       go true y z = refl
       go false y z = refl
 
-  pub row-put : (u : List ℕ) (x : ℕ) → u ≡ paste t (r * w) (drop from rows) (w - 1)
-      → x ≡ getD rows (from + (w - 1)) 0 / 4 * 4 + getD u (r * w + (w - 1)) 0 % 4 → RowIs w (P 16 rows i) r t (set u (r * w + (w - 1)) x)
+  pub row-put : (u : List ℕ) (to x : ℕ) → to ≡ r * w → u ≡ paste t to (drop from rows) (w - 1)
+      → x ≡ getD rows (from + (w - 1)) 0 / 4 * 4 + getD u (to + (w - 1)) 0 % 4 → RowIs w (P 16 rows i) r t (set u (to + (w - 1)) x)
   unfolding P copied
-  row-put u x eu ex = rw (ex, eu) done
+  row-put u to x et eu ex = rw (ex, eu, et) done
     where
       new : ℕ
       new = getD rows (from + (w - 1)) 0 / 4 * 4 + getD copied (r * w + (w - 1)) 0 % 4
@@ -192,9 +192,9 @@ module _ (w : ℕ) (f : ℕ → Bool) (r lo : ℕ) where
       none c (no l) true y x = rw (le-leb lo c (omega arith), le-ltb c lo (omega arith))
       none c l false y x = refl
 
-  pub column-again : (t u : List ℕ) (j m x : ℕ) (v : Bool) → j < groups w → r < groups w → v ≡ f j → m ≡ 2 ^ (r % 8)
-      → Masked (getD u (j * w + (w - 1 - r / 8)) 0) m v x → ColumnTo w f r lo t u j → ColumnTo w f r lo t (set u (j * w + (w - 1 - r / 8)) x) (j + 1)
-  column-again t u j m x v hj hr e em ex s = rw (set-masked w u j r m x v em ex) again
+  pub column-again : (t u : List ℕ) (j i m x : ℕ) (v : Bool) → j < groups w → r < groups w → v ≡ f j → i ≡ place w j r → m ≡ 2 ^ (r % 8)
+      → Masked (getD u i 0) m v x → ColumnTo w f r lo t u j → ColumnTo w f r lo t (set u i x) (j + 1)
+  column-again t u j i m x v hj hr e ei em ex s = rw (set-masked w u j r i m x v ei em ex) again
     where
       more : (c d : ℕ) (z : Bool) → cond (eqb c j && eqb d r) v (cond (eqb d r && (leb lo c && ltb c j)) (f c) z) ≡ cond (eqb d r && (leb lo c && ltb c (j + 1))) (f c) z
       more c d z = go (ℕ-discrete c j) (ℕ-discrete d r) (decLt c j)
@@ -258,16 +258,15 @@ module _ (w : ℕ) (bits first low r : ℕ) where
       → ColumnTo w (byteHas bits) r (first + low) t t (first + low)
   bits-start t l h k = column-start w (byteHas bits) r (first + low) t l (omega arith)
 
-  pub bits-again : (t u : List ℕ) (k m x : ℕ) (v : Bool) → first + 8 ≤ groups w → first % 8 ≡ 0 → k < 8 → r < groups w
-      → v ≡ eqb (bit bits k) 1 → m ≡ 2 ^ (r % 8) → Masked (getD u ((first + k) * w + (w - 1 - r / 8)) 0) m v x
-      → ColumnTo w (byteHas bits) r (first + low) t u (first + k)
-      → ColumnTo w (byteHas bits) r (first + low) t (set u ((first + k) * w + (w - 1 - r / 8)) x) (first + (k + 1))
+  pub bits-again : (t u : List ℕ) (k i m x : ℕ) (v : Bool) → first + 8 ≤ groups w → first % 8 ≡ 0 → k < 8 → r < groups w
+      → v ≡ eqb (bit bits k) 1 → i ≡ place w (first + k) r → m ≡ 2 ^ (r % 8) → Masked (getD u i 0) m v x
+      → ColumnTo w (byteHas bits) r (first + low) t u (first + k) → ColumnTo w (byteHas bits) r (first + low) t (set u i x) (first + (k + 1))
   unfolding byteHas
-  bits-again t u k m x v hf ha hk hr e em ex s =
+  bits-again t u k i m x v hf ha hk hr e ei em ex s =
       let q : k ≡ (first + k) % 8 = omega arith in
       let n : first + k + 1 ≡ first + (k + 1) = omega arith in
-      subst (λ (j : ℕ). ColumnTo w (byteHas bits) r (first + low) t (set u ((first + k) * w + (w - 1 - r / 8)) x) j) n
-      (column-again w (byteHas bits) r (first + low) t u (first + k) m x v (omega arith) hr (e ∙ ap (λ (j : ℕ). eqb (bit bits j) 1) q) em ex s)
+      subst (λ (j : ℕ). ColumnTo w (byteHas bits) r (first + low) t (set u i x) j) n
+      (column-again w (byteHas bits) r (first + low) t u (first + k) i m x v (omega arith) hr (e ∙ ap (λ (j : ℕ). eqb (bit bits j) 1) q) ei em ex s)
 
   pub bits-done : (t u : List ℕ) (k : ℕ) → 8 ≤ k → first + 8 ≤ groups w → ColumnTo w (byteHas bits) r (first + low) t u (first + k)
       → k ≤ 8 → ColumnTo w (byteHas bits) r (first + low) t u (first + 8)

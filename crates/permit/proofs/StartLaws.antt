@@ -45,6 +45,9 @@ module _ (f : ℕ → ℕ) (lo : ℕ) (t : List ℕ) where
       go i p (no n) (yes l) = rw (getD-set-other u at i x 0 n, p, lt-ltb i at l, lt-ltb i (at + 1) (omega arith))
       go i p (no n) (no l) = rw (getD-set-other u at i x 0 n, p, le-ltb i at (omega arith), le-ltb i (at + 1) (omega arith))
 
+  pub between-done : (u : List ℕ) (at to : ℕ) → to ≤ at → at ≤ to → Between f lo t u at → Between f lo t u to
+  between-done u at to l h s = let e : at ≡ to = omega arith in rw (← e) s
+
   -- what stands in a written byte, and in any other
   pub between-in : (u : List ℕ) (at i : ℕ) → Between f lo t u at → lo ≤ i → i < at → getD u i 0 ≡ f i
   between-in u at i s l h = s .says i (omega (arith, s .upTo)) ∙ rw (le-leb lo i l, lt-ltb i at h)
@@ -54,6 +57,26 @@ module _ (f : ℕ → ℕ) (lo : ℕ) (t : List ℕ) where
 
   pub between-above : (u : List ℕ) (at i : ℕ) → Between f lo t u at → i < length t → at ≤ i → getD u i 0 ≡ getD t i 0
   between-above u at i s h l = s .says i h ∙ rw (le-leb lo i (omega (arith, s .from)), le-ltb i at l)
+
+-- two writes side by side are one
+pub between-join : (f g : ℕ → ℕ) (lo at to : ℕ) (t u v : List ℕ) → Between f lo t u at → Between g at u v to
+    → ((i : ℕ) → at ≤ i → i < to → g i ≡ f i) → Between f lo t v to
+between-join f g lo at to t u v s r e = record {
+  from = omega (arith, s .from, r .from);
+  upTo = omega (arith, s .sized, r .upTo);
+  sized = r .sized ∙ s .sized;
+  says = λ i hi. go i hi (decLt i at) (decLt i to);
+}
+  where
+    go : (i : ℕ) → i < length t → Dec (i < at) → Dec (i < to) → getD v i 0 ≡ cond (leb lo i && ltb i to) (f i) (getD t i 0)
+    go i hi (yes a) d =
+        between-below g at u v to i r a ∙ s .says i hi ∙ rw (lt-ltb i at a, lt-ltb i to (omega (arith, r .from)))
+    go i hi (no a) (yes b) =
+        between-in g at u v to i r (omega arith) b ∙ e i (omega arith) b ∙ rw (le-leb lo i (omega (arith, s .from)), lt-ltb i to b)
+    go i hi (no a) (no b) =
+        between-above g at u v to i r (omega (arith, s .sized)) (omega arith)
+        ∙ s .says i hi
+        ∙ rw (le-leb lo i (omega (arith, s .from)), le-ltb i at (omega arith), le-ltb i to (omega arith))
 
 -- whatever three steps and a store write, the length stays
 pub steps-sized : (f g h : ℕ → ℕ) (i j k l m n at x : ℕ) (t a c d : List ℕ) → Between f i t a j → Between g k (set a at x) c l
@@ -67,7 +90,7 @@ module _ (x lo to : ℕ) where
   fill-again t u at l h s = between-again (λ _. x) lo t u at x (omega arith) refl s
 
   pub fill-done : (t u : List ℕ) (at : ℕ) → to ≤ at → at ≤ to → Between (λ _. x) lo t u at → Between (λ _. x) lo t u to
-  fill-done t u at l h s = let e : at ≡ to = omega arith in rw (← e) s
+  fill-done t u at l h s = between-done (λ _. x) lo t u at to l h s
 
 module _ (w : ℕ) (wide : 0 < w) where
   -- ---- the loop that makes every row row 0

@@ -23,3 +23,8 @@ rowOrders f r j (suc n) = order r j (f j) ∷ rowOrders f r (suc j) n
 unfoldable pub batchOrders : ℕ → List ℕ → ℕ → ℕ → ℕ → List Order
 batchOrders w rows start i zero = []
 batchOrders w rows start i (suc n) = rowOrders (P 16 rows i) (start + i) 2 (groups w - 2) ++ batchOrders w rows start (suc i) n
+
+-- one past the last group that a batch of count rows from start on has a row for; 0 where it has none
+unfoldable pub rowsEnd : ℕ → ℕ → ℕ
+rowsEnd start zero = 0
+rowsEnd start (suc n) = start + suc n

@@ -13,6 +13,7 @@ use lib.Dec.{eqb}
 use lib.ListN.{length, getD, drop, set, length-set}
 use lib.Seq.{getD-set-same, getD-set-other}
 use Rattle.wire.proofs.Loops.{left}
+use Rattle.permit.specs.Permission.{groups}
 use Rattle.tables.specs.Refusals.{firstRefusal}
 use Rattle.tables.specs.Phys.{phyRecord, phyCount, phyByte, ready, readySet, zoned}
 use Rattle.tables.proofs.RefusalLaws.{clear}
@@ -23,41 +24,41 @@ use Rattle.phy_zone.specs.PhyZone.{entries, startPhy, first, group, soun
 use Rattle.phy_zone.specs.Inner.{Fitting}
 
 -- ---- whether a descriptor is sound, by each way out of the function that answers it
-module _ (b0 b1 : ℕ) where
-  pub sound-high : 127 < b1 → false ≡ sound b0 b1
+module _ (w b0 b1 : ℕ) where
+  pub sound-high : groups w ≤ b1 → false ≡ sound w b0 b1
   unfolding sound
-  sound-high h = rw (le-ltb b1 128 h)
+  sound-high h = rw (le-ltb b1 (groups w) h)
 
-  pub sound-outside : b1 ≤ 127 → (b0 / 16 % 2 ≡ 1 → ⊥) → true ≡ sound b0 b1
+  pub sound-outside : b1 < groups w → (b0 / 16 % 2 ≡ 1 → ⊥) → true ≡ sound w b0 b1
   unfolding sound
-  sound-outside h p = let l : b1 < 128 = omega arith in rw (lt-ltb b1 128 l, ne-eqb (b0 / 16 % 2) 1 p)
+  sound-outside h p = rw (lt-ltb b1 (groups w) h, ne-eqb (b0 / 16 % 2) 1 p)
 
-  pub sound-inside : b1 ≤ 127 → b0 / 16 % 2 ≡ 1 → eqb b1 1 ≡ sound b0 b1
+  pub sound-inside : b1 < groups w → b0 / 16 % 2 ≡ 1 → eqb b1 1 ≡ sound w b0 b1
   unfolding sound
-  sound-inside h p = let l : b1 < 128 = omega arith in rw (lt-ltb b1 128 l, eq-eqb (b0 / 16 % 2) 1 p)
+  sound-inside h p = rw (lt-ltb b1 (groups w) h, eq-eqb (b0 / 16 % 2) 1 p)
 
 pub ruleset soundness = (sound-high, sound-outside, sound-inside)
 
 -- ---- the loop that judges every descriptor: those before i are sound
-pub record Judged (request : List ℕ) (k i : ℕ) : Type 0 where
+pub record Judged (w : ℕ) (request : List ℕ) (k i : ℕ) : Type 0 where
   pub within : i ≤ k
-  pub rest : allSound request 0 k ≡ allSound request i (k - i)
+  pub rest : allSound w request 0 k ≡ allSound w request i (k - i)
 
-pub judged-start : (request : List ℕ) (k : ℕ) → Judged request k 0
-judged-start request k = record { within = omega arith; rest = rw (sub-zero k) }
+pub judged-start : (w : ℕ) (request : List ℕ) (k : ℕ) → Judged w request k 0
+judged-start w request k = record { within = omega arith; rest = rw (sub-zero k) }
 
-module _ (request : List ℕ) (k i : ℕ) (v : Bool) (h : i < k) (e : v ≡ sound (first request i) (group request i)) (j : Judged request k i) where
-  pub judged-off : not v ≡ true → false ≡ allSound request 0 k
+module _ (w : ℕ) (request : List ℕ) (k i : ℕ) (v : Bool) (h : i < k) (e : v ≡ sound w (first request i) (group request i)) (j : Judged w request k i) where
+  pub judged-off : not v ≡ true → false ≡ allSound w request 0 k
   unfolding allSound
   judged-off t = sym (j .rest ∙ rw (left k i h, ← e, not-true v t))
 
-  pub judged-again : not v ≡ false → Judged request k (i + 1)
+  pub judged-again : not v ≡ false → Judged w request k (i + 1)
   unfolding allSound
   judged-again t = record { within = omega arith; rest = j .rest ∙ rw (left k i h, ← e, not-false v t, add-one i) }
 
-pub judged-end : (request : List ℕ) (k i : ℕ) → k ≤ i → Judged request k i → true ≡ allSound request 0 k
+pub judged-end : (w : ℕ) (request : List ℕ) (k i : ℕ) → k ≤ i → Judged w request k i → true ≡ allSound w request 0 k
 unfolding allSound
-judged-end request k i h j =
+judged-end w request k i h j =
     let l = j .within in
     let z : k - i ≡ 0 = omega arith in
     sym (j .rest ∙ rw z)
@@ -185,19 +186,19 @@ configured-holds phys request start i (suc n) d l u t =
     go (no ne) later = later (omega arith) (omega arith) (rw (length-zoned phys (start + i) (first request i) (group request i)) t)
 
 -- ---- what the rule gives, with r the result that its checks answered
-module _ (phys permissions : List ℕ) (phy carried : ℕ) (request : List ℕ)
-    (r : ℕ) (e : r ≡ firstRefusal (phyZoneChecks phys permissions phy carried request)) where
+module _ (w : ℕ) (phys permissions : List ℕ) (phy carried : ℕ) (request : List ℕ)
+    (r : ℕ) (e : r ≡ firstRefusal (phyZoneChecks w phys permissions phy carried request)) where
   -- where it is accepted, its descriptors and their phys are there
   pub accepted-fits : r ≡ 0 → length phys ≤ 128 * phyRecord → Fitting phys request
   accepted-fits z m =
-      let k = clear (phyZoneChecks phys permissions phy carried request) r e z tt in
+      let k = clear (phyZoneChecks w phys permissions phy carried request) r e z tt in
       record { head = omega arith; described = omega arith; there = omega arith; most = m }
 
   pub configure-done : (response set phys₁ response₁ set₁ : List ℕ) → r ≡ 0
       → phys₁ ≡ configured phys request (startPhy request) 0 (entries request)
       → response₁ ≡ (0x41 ∷ 0x93 ∷ r ∷ 0 ∷ []) ++ drop 4 response
       → set₁ ≡ readySet phys ++ drop 16 set
-      → Leaves 0x93 (phyZoneReply phys permissions phy carried request) response set r 4 phys₁ permissions response₁ set₁
+      → Leaves 0x93 (phyZoneReply w phys permissions phy carried request) response set r 4 phys₁ permissions response₁ set₁
   unfolding phyZoneReply
   configure-done response set phys₁ response₁ set₁ z ep er es =
       leaves-done 0x93 r _ e _ phys permissions response set response₁ set₁ 4 phys₁ permissions z

@@ -5,6 +5,7 @@ ghost use mathlib.Core.Path.{_≡_};
 ghost use mathlib.Core.List.{_++_};
 ghost use Prim.Native.Nat.{_+_, _*_, _%_, _≤_, _<_};
 ghost use lib.ListN.{length, drop};
+ghost use Rattle.permit.specs.Permission.{Width, Table};
 ghost use Rattle.tables.specs.Refusals.{firstRefusal};
 ghost use Rattle.tables.specs.Phys.{phyRecord, phyCount, readySet};
 ghost use Rattle.requests.specs.Requests.{Lent, Leaves};
@@ -12,10 +13,11 @@ ghost use Rattle.phy_zone.specs.PhyZone.{entries, startPhy, sound, allSo
 ghost use Rattle.phy_zone.specs.Inner.{Fitting};
 
 // Whether a descriptor may be written: its group is one, and is 1 where it is to participate.
-fn is_sound(b0: u8, b1: u8) -> bool
-    ensures { λ r. ⌜ r ≡ sound b0 b1 ⌝ }
+fn is_sound(width: usize, b0: u8, b1: u8) -> bool
+    requires { ⌜ Width width ⌝ }
+    ensures { λ r. ⌜ r ≡ sound width b0 b1 ⌝ }
 {
-    if 127 < b1 {
+    if 8 * width <= b1 as usize {
         return false;
     }
     if b0 / 16 % 2 != 1 {
@@ -25,14 +27,14 @@ fn is_sound(b0: u8, b1: u8) -> bool
 }
 
 // Every one of the k descriptors is judged before a record is written.
-fn all_sound(request: &[u8], k: usize) -> bool
-    requires { ⌜ 8 + 2 * k ≤ length (now request) ⌝ }
-    ensures { λ r. ⌜ r ≡ allSound (now (request .entry)) 0 k ⌝ }
+fn all_sound(width: usize, request: &[u8], k: usize) -> bool
+    requires { ⌜ Width width × (8 + 2 * k ≤ length (now request)) ⌝ }
+    ensures { λ r. ⌜ r ≡ allSound width (now (request .entry)) 0 k ⌝ }
 {
     let mut judged: usize = 0;
     while judged < k {
         let at = 8 + 2 * judged;
-        if !is_sound(request[at], request[at + 1]) {
+        if !is_sound(width, request[at], request[at + 1]) {
             return false;
         }
         judged += 1;
@@ -41,16 +43,17 @@ fn all_sound(request: &[u8], k: usize) -> bool
 }
 
 fn phy_zone_result(
+    width: usize,
     phys: &[u8],
     permissions: &[u8],
     phy: PhyNumber,
     carried: u8,
     request: &[u8],
 ) -> u8
-    requires { ⌜ (phy .0 < phyCount (now phys)) × (length (now permissions) ≡ 2048) ⌝ }
-    ensures { λ r. ⌜ r ≡ firstRefusal (phyZoneChecks (now (phys .entry)) (now (permissions .entry)) (phy .0) carried (now (request .entry))) ⌝ }
+    requires { ⌜ (phy .0 < phyCount (now phys)) × Table width (now permissions) ⌝ }
+    ensures { λ r. ⌜ r ≡ firstRefusal (phyZoneChecks width (now (phys .entry)) (now (permissions .entry)) (phy .0) carried (now (request .entry))) ⌝ }
 {
-    if !requests::has_right(phys, permissions, phy, carried) {
+    if !requests::has_right(width, phys, permissions, phy, carried) {
         return 0x02;
     }
     if request.len() < 8 {
@@ -67,7 +70,7 @@ fn phy_zone_result(
     if phys.len() / tables::PHY_RECORD < (request[6] % 128) as usize + k {
         return 0x10;
     }
-    if !all_sound(request, k) {
+    if !all_sound(width, request, k) {
         return 0x02;
     }
     0x00
@@ -104,6 +107,7 @@ fn carry_out(phys: &mut [u8], request: &[u8], set: &mut [u8])
 
 // Sets group, participation and priority of a run of phys.
 pub fn configure_phy_zone(
+    width: usize,
     phys: &mut [u8],
     permissions: &[u8],
     phy: PhyNumber,
@@ -112,10 +116,10 @@ pub fn configure_phy_zone(
     response: &mut [u8],
     set: &mut [u8],
 ) -> Ruled
-    requires { ⌜ Lent (now phys) (now permissions) (phy .0) (length (now request)) (length (now response)) (length (now set)) ⌝ }
-    ensures { λ r. ⌜ Leaves 0x93 (phyZoneReply (now (phys .entry)) (now (permissions .entry)) (phy .0) carried (now (request .entry))) (now (response .entry)) (now (set .entry)) (r .result) (r .written) (now (phys .exit)) (now (permissions .entry)) (now (response .exit)) (now (set .exit)) ⌝ }
+    requires { ⌜ Lent width (now phys) (now permissions) (phy .0) (length (now request)) (length (now response)) (length (now set)) ⌝ }
+    ensures { λ r. ⌜ Leaves 0x93 (phyZoneReply width (now (phys .entry)) (now (permissions .entry)) (phy .0) carried (now (request .entry))) (now (response .entry)) (now (set .entry)) (r .result) (r .written) (now (phys .exit)) (now (permissions .entry)) (now (response .exit)) (now (set .exit)) ⌝ }
 {
-    let result = phy_zone_result(phys, permissions, phy, carried, request);
+    let result = phy_zone_result(width, phys, permissions, phy, carried, request);
     requests::write_head(response, 0x93, result, 0);
     if result != 0x00 {
         tables::write_empty_set(set);

@@ -45,18 +45,18 @@ abbrev pub linkLeft : Out → List ℕ → Given
 linkLeft o permissions = given linkWords o (buffer 0 o) permissions
 
 unfoldable pub smpGives : List ℕ → List ℕ → ℕ → ℕ → List ℕ → Given
-smpGives phys permissions phy carried payload = smpLeft (smpOut phys permissions phy carried payload (zeros 1020) (zeros 16))
+smpGives phys permissions phy carried payload = smpLeft (smpOut 16 phys permissions phy carried payload (zeros 1020) (zeros 16))
 
 unfoldable pub openGives : List ℕ → List ℕ → ℕ → List ℕ → Given
-openGives phys permissions phy payload = given outcomeWords (openOut phys [] permissions phy payload (zeros 28)) phys permissions
+openGives phys permissions phy payload = given outcomeWords (openOut 16 phys [] permissions phy payload (zeros 28)) phys permissions
 
 unfoldable pub primitiveGives : List ℕ → List ℕ → ℕ → List ℕ → Given
 primitiveGives phys permissions phy payload =
-    given toldWords (primitiveOut phys permissions phy (getD payload 0 0) (zeros 16) (zeros 28)) phys permissions
+    given toldWords (primitiveOut 16 phys permissions phy (getD payload 0 0) (zeros 16) (zeros 28)) phys permissions
 
 unfoldable pub broadcastGives : List ℕ → List ℕ → ℕ → List ℕ → Given
 broadcastGives phys permissions phy payload =
-    given toldWords (broadcastOut phys permissions phy payload (zeros 16) (zeros 28)) phys permissions
+    given toldWords (broadcastOut 16 phys permissions phy payload (zeros 16) (zeros 28)) phys permissions
 
 unfoldable pub identifyGives : List ℕ → List ℕ → ℕ → List ℕ → Given
 identifyGives phys permissions phy payload = linkLeft (identifyOut phys phy payload) permissions

@@ -314,7 +314,7 @@ pub fn start(phys: &mut [u8], permissions: &mut [u8])
     ensures { λ _. ⌜ (now (phys .exit) ≡ rackTable) × (now (permissions .exit) ≡ startTable 16) ⌝ }
 {
     start_rack(phys);
-    permit::start_table(permissions);
+    permit::start_table(16, permissions);
 }
 
 // The first line of every run.

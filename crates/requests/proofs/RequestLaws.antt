@@ -3,7 +3,7 @@
 use mathlib.Core.Path.{_≡_, refl, sym, ap, _∙_}
 use mathlib.Core.Bool.{Bool, true, false}
 use mathlib.Core.List.{List, [], _∷_, _++_}
-use Prim.Native.Nat.{ℕ, zero, suc, _+_, _≤_, _<_}
+use Prim.Native.Nat.{ℕ, zero, suc, _+_, _≤_}
 use native.Mathlib.Omega.{arith}
 use lib.ListN.{length, drop, set}
 use lib.Seq.{sets-eq}
@@ -13,13 +13,13 @@ use Rattle.requests.specs.Requests.{smpSource, Reply, turnedDown, replie
 
 -- who is speaking, by each way out of the function that answers it
 module _ (phys : List ℕ) (phy carried x : ℕ) (p : Bool) (e : p ≡ participating phys phy) where
-  pub source-carried : p ≡ true → x ≡ outsideGroup carried → (x ≡ smpSource phys phy carried) × (x < 128)
+  pub source-carried : p ≡ true → x ≡ outsideGroup carried → x ≡ smpSource phys phy carried
   unfolding smpSource
-  source-carried t ex = (rw (sym e ∙ t) ex, omega arith)
+  source-carried t ex = rw (sym e ∙ t) ex
 
-  pub source-own : p ≡ false → x ≡ phyGroup phys phy → (x ≡ smpSource phys phy carried) × (x < 128)
+  pub source-own : p ≡ false → x ≡ phyGroup phys phy → x ≡ smpSource phys phy carried
   unfolding smpSource
-  source-own t ex = (rw (sym e ∙ t) ex, omega arith)
+  source-own t ex = rw (sym e ∙ t) ex
 
 -- four bytes at the head of a buffer
 pub head-set : (l : List ℕ) (a b c d : ℕ) → 4 ≤ length l → set (set (set (set l 0 a) 1 b) 2 c) 3 d ≡ (a ∷ b ∷ c ∷ d ∷ []) ++ drop 4 l

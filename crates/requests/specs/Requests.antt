@@ -5,7 +5,7 @@ use mathlib.Core.List.{List, [], _∷_, _++_}
 use Prim.Native.Nat.{ℕ, zero, suc, _+_, _*_, _/_, _%_, _≤_, _<_}
 use lib.ListN.{length, drop}
 use Rattle.wire.specs.Groups.{outsideGroup}
-use Rattle.permit.specs.Permission.{P}
+use Rattle.permit.specs.Permission.{reaches, Table}
 use Rattle.tables.specs.Phys.{phyRecord, phyCount, phyGroup, participating, emptySet}
 
 -- "The source group .. of anything arriving on a phy that is not participating, is the phy record's group. For the rest, on a participating
@@ -14,8 +14,8 @@ unfoldable pub smpSource : List ℕ → ℕ → ℕ → ℕ
 smpSource phys phy carried = cond (participating phys phy) (outsideGroup carried) (phyGroup phys phy)
 
 -- "A caller may change zoning exactly if P(source group, 2) is on"
-unfoldable pub right : List ℕ → List ℕ → ℕ → ℕ → Bool
-right phys permissions phy carried = P 16 permissions (smpSource phys phy carried) 2
+unfoldable pub right : ℕ → List ℕ → List ℕ → ℕ → ℕ → Bool
+right w phys permissions phy carried = reaches w permissions (smpSource phys phy carried) 2
 
 -- what a rule gives: its result, the response's bytes after the first four, the phy set, and both tables
 pub record Reply : Type 0 where
@@ -40,10 +40,10 @@ abbrev pub responseOf : ℕ → Reply → List ℕ
 responseOf function p = 0x41 ∷ function ∷ p .result ∷ length (p .rest) / 4 ∷ p .rest
 
 -- what a rule's function may build on: right sizes, an arriving phy in the table, and room
-pub record Lent (phys permissions : List ℕ) (phy requestSize responseSize setSize : ℕ) : Type 0 where
+pub record Lent (w : ℕ) (phys permissions : List ℕ) (phy requestSize responseSize setSize : ℕ) : Type 0 where
   pub records : length phys % phyRecord ≡ 0
   pub most : length phys ≤ 128 * phyRecord
-  pub whole : length permissions ≡ 2048
+  pub table : Table w permissions
   pub there : phy < phyCount phys
   pub head : 4 ≤ requestSize
   pub responseRoom : 1020 ≤ responseSize

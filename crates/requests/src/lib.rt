@@ -5,6 +5,7 @@ ghost use mathlib.Core.Path.{_≡_};
 ghost use mathlib.Core.List.{[], _∷_, _++_};
 ghost use Prim.Native.Nat.{_≤_, _<_};
 ghost use lib.ListN.{length, drop};
+ghost use Rattle.permit.specs.Permission.{Table};
 ghost use Rattle.tables.specs.Phys.{phyCount};
 ghost use Rattle.requests.specs.Requests.{smpSource, right};
 
@@ -17,7 +18,7 @@ pub struct Ruled {
 // The group that is speaking.
 fn smp_source(phys: &[u8], phy: PhyNumber, carried: u8) -> ZoneGroup
     requires { ⌜ phy .0 < phyCount (now phys) ⌝ }
-    ensures { λ r. ⌜ (r .0 ≡ smpSource (now (phys .entry)) (phy .0) carried) × (r .0 < 128) ⌝ }
+    ensures { λ r. ⌜ r .0 ≡ smpSource (now (phys .entry)) (phy .0) carried ⌝ }
 {
     if tables::is_participating(phys, phy) {
         return wire::outside_group(carried);
@@ -26,11 +27,16 @@ fn smp_source(phys: &[u8], phy: PhyNumber, carried: u8) -> ZoneGroup
 }
 
 // Whether the caller may change zoning.
-pub fn has_right(phys: &[u8], permissions: &[u8], phy: PhyNumber, carried: u8) -> bool
-    requires { ⌜ (phy .0 < phyCount (now phys)) × (length (now permissions) ≡ 2048) ⌝ }
-    ensures { λ r. ⌜ r ≡ right (now (phys .entry)) (now (permissions .entry)) (phy .0) carried ⌝ }
+pub fn has_right(width: usize, phys: &[u8], permissions: &[u8], phy: PhyNumber, carried: u8) -> bool
+    requires { ⌜ (phy .0 < phyCount (now phys)) × Table width (now permissions) ⌝ }
+    ensures { λ r. ⌜ r ≡ right width (now (phys .entry)) (now (permissions .entry)) (phy .0) carried ⌝ }
 {
-    permit::permitted(permissions, smp_source(phys, phy, carried), ZoneGroup(2))
+    permit::permitted(
+        width,
+        permissions,
+        smp_source(phys, phy, carried),
+        ZoneGroup(2),
+    )
 }
 
 // The first four bytes of a response.

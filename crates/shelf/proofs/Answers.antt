@@ -29,14 +29,14 @@ keeps (suc m) values old new n bs e = cc
 
 pub refusals : Refusals
 unfolding outcomeOf handedIn
-refusals startUp t n bs e = keeps _ _ _ _ n bs e
-refusals (leaving phys phy) t n bs e = keeps _ _ _ _ n bs e
-refusals (identify phys phy address) t n bs e = keeps _ _ _ _ n bs e
-refusals (elect phys routes) t n bs e = keeps _ _ _ _ n bs e
-refusals (opening phys routes phy frame buffer) t n bs e = keeps _ _ _ _ n bs e
-refusals (primitive phys phy number set frame) t n bs e = keeps _ _ _ _ n bs e
-refusals (broadcastFrame phys phy arrived set frame) t n bs e = keeps _ _ _ _ n bs e
-refusals (smp phys phy carried request response set) t n bs e = keeps _ _ _ _ n bs e
+refusals w startUp t n bs e = keeps _ _ _ _ n bs e
+refusals w (leaving phys phy) t n bs e = keeps _ _ _ _ n bs e
+refusals w (identify phys phy address) t n bs e = keeps _ _ _ _ n bs e
+refusals w (elect phys routes) t n bs e = keeps _ _ _ _ n bs e
+refusals w (opening phys routes phy frame buffer) t n bs e = keeps _ _ _ _ n bs e
+refusals w (primitive phys phy number set frame) t n bs e = keeps _ _ _ _ n bs e
+refusals w (broadcastFrame phys phy arrived set frame) t n bs e = keeps _ _ _ _ n bs e
+refusals w (smp phys phy carried request response set) t n bs e = keeps _ _ _ _ n bs e
 
 -- an outcome that is no refusal has the values and buffers that the call gives
 pub gave : (m : ℕ) (values : List ℕ) (old new : List (List ℕ)) (vs : List ℕ) (bs : List (List ℕ)) → outcome m values old new ≡ out (answer vs) bs
@@ -51,10 +51,10 @@ answered zero vs ws old new e = cc
 answered (suc m) vs ws old new e = let z : _≡_ {A = ℕ} 0 1 = cc in absurd (omega arith)
 
 -- an OPEN that was answered with a phy was judged so
-pub forwarded : (phys routes t : List ℕ) (phy : ℕ) (frame buffer : List ℕ) (q : PhyNumber) → answerOf (openOut phys routes t phy frame buffer) ≡ openedAs (Forward q)
-    → opened phys routes t phy frame ≡ Forward q
-forwarded phys routes t phy frame buffer q e =
-    one-answer _ _ (judged phys t phy frame (search phys routes frame) ∙ ap answer (answered _ _ _ _ _ e))
+pub forwarded : (w : ℕ) (phys routes t : List ℕ) (phy : ℕ) (frame buffer : List ℕ) (q : PhyNumber) → answerOf (openOut w phys routes t phy frame buffer) ≡ openedAs (Forward q)
+    → opened w phys routes t phy frame ≡ Forward q
+forwarded w phys routes t phy frame buffer q e =
+    one-answer _ _ (judged w phys t phy frame (search phys routes frame) ∙ ap answer (answered _ _ _ _ _ e))
 
 none-told : physIn emptySet ≡ 0
 unfolding physIn tally member bit emptySet
@@ -62,12 +62,12 @@ none-told = refl
 
 pub turned-down : TurnedDown
 unfolding outcomeOf
-turned-down phys t phy carried request response set result written told bs e h =
-    let p = smpReply phys t phy carried request in
+turned-down w phys t phy carried request response set result written told bs e h =
+    let p = smpReply w phys t phy carried request in
     let g = gave _ (valuesOf p) _ _ _ bs e in
     let r : p .result ≡ result = cc (g .0) in
-    let d : p ≡ turnedDown result phys t = down phys t phy carried request (λ z. h (sym r ∙ z)) ∙ ap (λ (k : ℕ). turnedDown k phys t) r in
+    let d : p ≡ turnedDown result phys t = down w phys t phy carried request (λ z. h (sym r ∙ z)) ∙ ap (λ (k : ℕ). turnedDown k phys t) r in
     let v : result ∷ 4 ∷ physIn emptySet ∷ [] ≡ result ∷ written ∷ told ∷ [] = sym (ap valuesOf d) ∙ g .0 in
-    let w : written ≡ 4 = cc v in
+    let m : written ≡ 4 = cc v in
     let n : told ≡ physIn emptySet = cc v in
-    (w, n ∙ none-told, g .1 ∙ ap (λ (q : Reply). buffersOf (functionOf request) q response set) d)
+    (m, n ∙ none-told, g .1 ∙ ap (λ (q : Reply). buffersOf (functionOf request) q response set) d)

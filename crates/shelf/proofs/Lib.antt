@@ -4,3 +4,4 @@ pub mod Histories
 pub mod Worked
 pub mod Shut
 pub mod WidePorts
+pub mod Apart

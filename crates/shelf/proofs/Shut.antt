@@ -25,22 +25,22 @@ use Rattle.shelf.proofs.Answers.{gave}
 use Rattle.shelf.proofs.Worked.{cases}
 
 -- case 1 as a call
-ordering : Call
+abbrev ordering : Call
 ordering = smp rackTable 0 0 single89 (replicate 1020 0) (replicate 16 0)
 
 -- case 1 is answered
-answered : answerOf (outcomeOf ordering (startTable 16)) ≡ answer (0 ∷ 4 ∷ 8 ∷ [])
-unfolding ordering outcomeOf fresh asks
+answered : answerOf (outcomeOf 16 ordering (startTable 16)) ≡ answer (0 ∷ 4 ∷ 8 ∷ [])
+unfolding outcomeOf fresh asks
 answered = cases .0 .0
 
 -- case 5 is answered otherwise
-turned : answerOf (outcomeOf (smp rackTable 2 0 single89 (replicate 1020 0) (replicate 16 0)) after1) ≡ answer (1 ∷ 4 ∷ 0 ∷ [])
+turned : answerOf (outcomeOf 16 (smp rackTable 2 0 single89 (replicate 1020 0) (replicate 16 0)) after1) ≡ answer (1 ∷ 4 ∷ 0 ∷ [])
 unfolding outcomeOf asks
 turned = cases .0 .6
 
 -- case 1 switched 8 and 9 on, which start-up leaves off
-changed : after ordering (startTable 16) ≡ startTable 16 → true ≡ P 16 (startTable 16) 8 9
-unfolding ordering after outcomeOf after1 fresh asks
+changed : after 16 ordering (startTable 16) ≡ startTable 16 → true ≡ P 16 (startTable 16) 8 9
+unfolding after outcomeOf after1 fresh asks
 changed e = sym (cases .0 .1 .0) ∙ ap (λ (t : List ℕ). P 16 t 8 9) e
 
 was-off : P 16 (startTable 16) 8 9 ≡ false
@@ -54,15 +54,15 @@ counts n set rest buffer e eb l = e ∙ sym (ap physIn eb ∙ count-front set re
 pub counted : Counted
 unfolding outcomeOf
 counted = (
-  λ phys t phy number set frame n bs e. let g = gave _ _ _ _ (n ∷ []) bs e in
-      let v : n ≡ physIn (toldSet phys t phy (phyGroup phys phy)) = cc (g .0) in
-      counts n (toldSet phys t phy (phyGroup phys phy)) (drop 16 set) (getD bs 0 []) v (ap (λ (l : List (List ℕ)). getD l 0 []) (g .1)) (length-told phys t phy (phyGroup phys phy)),
-  λ phys t phy arrived set frame n bs e. let g = gave _ _ _ _ (n ∷ []) bs e in
-      let v : n ≡ physIn (toldSet phys t phy (frameSource arrived)) = cc (g .0) in
-      counts n (toldSet phys t phy (frameSource arrived)) (drop 16 set) (getD bs 0 []) v (ap (λ (l : List (List ℕ)). getD l 0 []) (g .1)) (length-told phys t phy (frameSource arrived)),
-  λ phys t phy carried request response set result written n bs e. let g = gave _ _ _ _ (result ∷ written ∷ n ∷ []) bs e in
-      let v : n ≡ physIn ((smpReply phys t phy carried request) .set) = cc (g .0) in
-      counts n ((smpReply phys t phy carried request) .set) (drop 16 set) (getD bs 3 []) v (ap (λ (l : List (List ℕ)). getD l 3 []) (g .1)) (set-16 phys t phy carried request),
+  λ w phys t phy number set frame n bs e. let g = gave _ _ _ _ (n ∷ []) bs e in
+      let v : n ≡ physIn (toldSet w phys t phy (phyGroup phys phy)) = cc (g .0) in
+      counts n (toldSet w phys t phy (phyGroup phys phy)) (drop 16 set) (getD bs 0 []) v (ap (λ (l : List (List ℕ)). getD l 0 []) (g .1)) (length-told w phys t phy (phyGroup phys phy)),
+  λ w phys t phy arrived set frame n bs e. let g = gave _ _ _ _ (n ∷ []) bs e in
+      let v : n ≡ physIn (toldSet w phys t phy (frameSource arrived)) = cc (g .0) in
+      counts n (toldSet w phys t phy (frameSource arrived)) (drop 16 set) (getD bs 0 []) v (ap (λ (l : List (List ℕ)). getD l 0 []) (g .1)) (length-told w phys t phy (frameSource arrived)),
+  λ w phys t phy carried request response set result written n bs e. let g = gave _ _ _ _ (result ∷ written ∷ n ∷ []) bs e in
+      let v : n ≡ physIn ((smpReply w phys t phy carried request) .set) = cc (g .0) in
+      counts n ((smpReply w phys t phy carried request) .set) (drop 16 set) (getD bs 3 []) v (ap (λ (l : List (List ℕ)). getD l 3 []) (g .1)) (set-16 w phys t phy carried request),
 )
 
 -- ---- the supervisor
@@ -73,16 +73,17 @@ supervisor = greatest
 differ : true ≡ false → ⊥
 differ e = let z : _≡_ {A = ℕ} 0 1 = cc in omega arith
 
--- two requests that would get the one answer
-asked : {a : Answer} → ((phys t : List ℕ) (phy carried : ℕ) (request response set : List ℕ) → answerOf (outcomeOf (smp phys phy carried request response set) t) ≡ a)
-    → answerOf (outcomeOf ordering (startTable 16)) ≡ answerOf (outcomeOf (smp rackTable 2 0 single89 (replicate 1020 0) (replicate 16 0)) after1)
-unfolding ordering
-asked h = h _ (startTable 16) _ _ _ _ _ ∙ sym (h _ after1 _ _ _ _ _)
+-- by an order that is accepted and changes the table, and another that is turned down
+module _ (w : ℕ) (phys t u : List ℕ) (phy far : ℕ) (request other response set : List ℕ) (k : ℕ) where
+  pub shut-by : answerOf (outcomeOf w (smp phys phy 0 request response set) t) ≡ answer (0 ∷ 4 ∷ k ∷ [])
+      → answerOf (outcomeOf w (smp phys far 0 other response set) u) ≡ answer (1 ∷ 4 ∷ 0 ∷ [])
+      → (after w (smp phys phy 0 request response set) t ≡ t → ⊥) → ShutOut w
+  shut-by yields turned changed = (
+    λ h. differ (sym (sym (ap refused yields) ∙ h (smp phys phy 0 request response set) t)),
+    λ a h. let e : answer (0 ∷ 4 ∷ k ∷ []) ≡ answer (1 ∷ 4 ∷ 0 ∷ []) = sym yields ∙ h phys t phy 0 request response set ∙ sym (h phys u far 0 other response set) ∙ turned in
+        let z : _≡_ {A = ℕ} 0 1 = cc in omega arith,
+    λ h. changed (h (smp phys phy 0 request response set) t),
+  )
 
-pub shut-out : ShutOut
-shut-out = (
-  λ h. differ (sym (sym (ap refused answered) ∙ h ordering (startTable 16))),
-  λ a h. let e : answer (0 ∷ 4 ∷ 8 ∷ []) ≡ answer (1 ∷ 4 ∷ 0 ∷ []) = sym answered ∙ asked h ∙ turned in
-      let z : _≡_ {A = ℕ} 0 1 = cc in omega arith,
-  λ h. differ (changed (h ordering (startTable 16)) ∙ was-off),
-)
+pub shut-out : ShutOut 16
+shut-out = shut-by 16 rackTable (startTable 16) after1 0 2 single89 single89 (replicate 1020 0) (replicate 16 0) 8 answered turned (λ e. differ (changed e ∙ was-off))

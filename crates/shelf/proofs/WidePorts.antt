@@ -23,39 +23,39 @@ use Rattle.shelf.specs.Promises.{Relayed, aPrimitive, aFrame, ToldPermit
 use Rattle.shelf.proofs.Answers.{gave, forwarded}
 
 -- the set that either call left has exactly the phys that are told
-in-buffer : (phys t : List ℕ) (phy source : ℕ) (rest : List ℕ) (i : ℕ) → i < 128 → member (toldSet phys t phy source ++ rest) i ≡ told phys t phy source i
-in-buffer phys t phy source rest i h = member-front _ rest i (length-told phys t phy source) h ∙ in-set phys t phy source i h
+in-buffer : (w : ℕ) (phys t : List ℕ) (phy source : ℕ) (rest : List ℕ) (i : ℕ) → i < 128 → member (toldSet w phys t phy source ++ rest) i ≡ told w phys t phy source i
+in-buffer w phys t phy source rest i h = member-front _ rest i (length-told w phys t phy source) h ∙ in-set w phys t phy source i h
 
-relayed : (phys t : List ℕ) (phy source : ℕ) (set : List ℕ) → Relayed phys t phy source set → (i : ℕ) → i < 128 → member set i ≡ told phys t phy source i
+pub relayed : (w : ℕ) (phys t : List ℕ) (phy source : ℕ) (set : List ℕ) → Relayed w phys t phy source set → (i : ℕ) → i < 128 → member set i ≡ told w phys t phy source i
 unfolding outcomeOf
-relayed _ _ _ _ _ (aPrimitive phys t phy number set frame v bs e) i h =
-    ap (λ (b : List (List ℕ)). member (getD b 0 []) i) (gave _ _ _ _ _ bs e .1) ∙ in-buffer phys t phy (phyGroup phys phy) (drop 16 set) i h
-relayed _ _ _ _ _ (aFrame phys t phy arrived set frame v bs e) i h =
-    ap (λ (b : List (List ℕ)). member (getD b 0 []) i) (gave _ _ _ _ _ bs e .1) ∙ in-buffer phys t phy (frameSource arrived) (drop 16 set) i h
+relayed _ _ _ _ _ _ (aPrimitive w phys t phy number set frame v bs e) i h =
+    ap (λ (b : List (List ℕ)). member (getD b 0 []) i) (gave _ _ _ _ _ bs e .1) ∙ in-buffer w phys t phy (phyGroup phys phy) (drop 16 set) i h
+relayed _ _ _ _ _ _ (aFrame w phys t phy arrived set frame v bs e) i h =
+    ap (λ (b : List (List ℕ)). member (getD b 0 []) i) (gave _ _ _ _ _ bs e .1) ∙ in-buffer w phys t phy (frameSource arrived) (drop 16 set) i h
 
 pub told-permitted : ToldPermitted
-told-permitted phys t phy source set r i h e =
-    let p = told-parts phys t phy source i (sym (relayed phys t phy source set r i h) ∙ e) in (p .0, p .1)
+told-permitted w phys t phy source set r i h e =
+    let p = told-parts w phys t phy source i (sym (relayed w phys t phy source set r i h) ∙ e) in (p .0, p .1)
 
 pub once : ToldOnce
-once phys t phy source set r i j hi hj ei ej p =
-    told-once phys t phy source i j (sym (relayed phys t phy source set r i hi) ∙ ei) (sym (relayed phys t phy source set r j hj) ∙ ej) p
+once w phys t phy source set r i j hi hj ei ej p =
+    told-once w phys t phy source i j (sym (relayed w phys t phy source set r i hi) ∙ ei) (sym (relayed w phys t phy source set r j hj) ∙ ej) p
 
 pub each-port : EachPortTold
-each-port phys t phy source set r i h p o =
-    let n = port-named phys t phy source i p o in
+each-port w phys t phy source set r i h p o =
+    let n = port-named w phys t phy source i p o in
     let b : n .at < 128 = omega (arith, n .low) in
     record {
       at = n .at;
-      told = relayed phys t phy source set r (n .at) b ∙ n .named;
+      told = relayed w phys t phy source set r (n .at) b ∙ n .named;
       port = n .port;
-      lowest = λ k pk s. told-lowest phys t phy source (n .at) k (n .named) pk s;
+      lowest = λ k pk s. told-lowest w phys t phy source (n .at) k (n .named) pk s;
     }
 
 pub no-return : NoReturn
 unfolding outcomeOf
-no-return phys routes t phy frame buffer q e =
-    forward-permitted phys routes t phy frame q (forwarded phys routes t phy frame buffer q e) .3
+no-return w phys routes t phy frame buffer q e =
+    forward-permitted w phys routes t phy frame q (forwarded w phys routes t phy frame buffer q e) .3
 
 -- ---- leaving
 left-unready : (phys : List ℕ) (phy : ℕ) → ready (left phys phy) phy ≡ false
@@ -72,6 +72,6 @@ left-unready phys phy = ne-eqb _ 1 (λ e. odd (decLt (12 * phy + 2) (length phys
 
 pub leaves-port : LeavesPort
 unfolding outcomeOf
-leaves-port phys t phy v bs e j p =
+leaves-port w phys t phy v bs e j p =
     let s : getD bs 0 [] ≡ left phys phy = ap (λ (b : List (List ℕ)). getD b 0 []) (gave _ _ _ _ _ bs e .1) in
     port-unready (left phys phy) phy j (left-unready phys phy) (ap (λ (x : List ℕ). samePort x phy j) (sym s) ∙ p)

@@ -4,8 +4,8 @@ use mathlib.Core.Path.{refl}
 use Rattle.wire.specs.Address.{bigEndian, addressAt}
 use Rattle.wire.specs.Bits.{bit, setBit, tab}
 use Rattle.wire.specs.PhySet.{member, bitsOf, setByte, setOf, tally, physIn, some}
-use Rattle.permit.specs.Orders.{apply, rowOrders, batchOrders}
-use Rattle.permit.specs.Permission.{place, P, setP, setBoth, startByte, startTable}
+use Rattle.permit.specs.Orders.{apply, rowOrders, batchOrders, rowsEnd}
+use Rattle.permit.specs.Permission.{place, P, reaches, setP, setBoth, startByte, startTable}
 use Rattle.tables.specs.Outcome.{outcome}
 use Rattle.tables.specs.Phys.{physSized, readySet, emptySet, zoned}
 use Rattle.tables.specs.Ports.{samePort}
@@ -14,17 +14,18 @@ use Rattle.tables.specs.Arrival.{arrivalChecks}
 use Rattle.tables.specs.Refusals.{firstRefusal}
 use Rattle.opens.specs.Open.{openSource, judge, byte20, sent}
 use Rattle.opens.specs.Search.{sameBytes, zeroBytes, findPhy, findRoute, search}
-use Rattle.broadcasts.specs.Broadcasts.{permitted, sister, told, toldSet, frameByte, frameOf, typedLength}
+use Rattle.broadcasts.specs.Broadcasts.{permitted, permittedInPort, told, toldSet, frameByte, frameOf, typedLength}
 use Rattle.requests.specs.Requests.{smpSource, right, replied}
 use Rattle.phy_zone.specs.PhyZone.{sound, allSound, configured, phyZoneReply}
 use Rattle.zone_permission.specs.ZonePermission.{operationChecks, ordersOf, permissionReply}
 use Rattle.zone_report.specs.ZoneReport.{rowCount, rows, reportReply}
+use Rattle.shown_rows.specs.ShownRows.{shownByte, shownRows}
 use Rattle.smp.specs.Smp.{smpReply, lengthField}
 use Rattle.rack.specs.Rack.{rack, flat, rackTable}
 use Rattle.shelf.specs.Cases.{Cases, LaterToo, asks, fresh, single89, after1, opens2, changes2, phyZone, batch, rows89}
 
 pub cases : Cases × LaterToo
-unfolding bigEndian addressAt bit setBit tab member bitsOf setByte setOf tally physIn apply rowOrders batchOrders place P setP setBoth startByte startTable outcome physSized routesSized arrivalChecks readySet emptySet zoned firstRefusal openSource judge byte20 sent sameBytes zeroBytes findPhy findRoute search samePort some permitted sister told toldSet frameByte frameOf typedLength smpSource right replied sound allSound configured phyZoneReply operationChecks ordersOf permissionReply rowCount rows reportReply smpReply lengthField rack flat rackTable asks fresh single89 after1 opens2 changes2 phyZone batch rows89
+unfolding bigEndian addressAt bit setBit tab member bitsOf setByte setOf tally physIn apply rowOrders batchOrders rowsEnd place P reaches shownByte shownRows setP setBoth startByte startTable outcome physSized routesSized arrivalChecks readySet emptySet zoned firstRefusal openSource judge byte20 sent sameBytes zeroBytes findPhy findRoute search samePort some permitted permittedInPort told toldSet frameByte frameOf typedLength smpSource right replied sound allSound configured phyZoneReply operationChecks ordersOf permissionReply rowCount rows reportReply smpReply lengthField rack flat rackTable asks fresh single89 after1 opens2 changes2 phyZone batch rows89
 cases = (
   (refl, (refl, refl), refl, refl, refl, refl, refl, refl, refl, refl, refl, refl, refl, refl, (refl, refl), refl, refl, refl),
   (refl, refl),

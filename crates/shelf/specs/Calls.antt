@@ -2,8 +2,8 @@
 use mathlib.Core.List.{List, [], _∷_, _++_}
 use Prim.Native.Nat.{ℕ}
 use mathlib.Core.Bool.{cond}
-use lib.Dec.{eqb}
-use lib.ListN.{length, getD}
+use lib.ListN.{getD}
+use Rattle.permit.specs.Permission.{permissionsSized}
 use Rattle.permit.specs.Orders.{Order}
 use Rattle.tables.specs.Outcome.{Answer, Out, out}
 use Rattle.links.specs.Links.{startUpOut, leavingOut, identifyOut}
@@ -23,16 +23,17 @@ pub data Call : Type 0 where
   broadcastFrame : (phys : List ℕ) (phy : ℕ) (arrived set frame : List ℕ) → Call
   smp : (phys : List ℕ) (phy carried : ℕ) (request response set : List ℕ) → Call
 
--- what a call gives, lent the permission table t: the definition in its contract
-unfoldable pub outcomeOf : Call → List ℕ → Out
-outcomeOf startUp t = startUpOut t
-outcomeOf (leaving phys phy) t = leavingOut phys phy
-outcomeOf (identify phys phy address) t = identifyOut phys phy address
-outcomeOf (elect phys routes) t = electOut phys routes
-outcomeOf (opening phys routes phy frame buffer) t = openOut phys routes t phy frame buffer
-outcomeOf (primitive phys phy number set frame) t = primitiveOut phys t phy number set frame
-outcomeOf (broadcastFrame phys phy arrived set frame) t = broadcastOut phys t phy arrived set frame
-outcomeOf (smp phys phy carried request response set) t = smpOut phys t phy carried request response set
+-- what a call gives, lent the permission table t, whose rows have w bytes: the definition in its contract. Document 01's shelf is w = 16,
+-- the small shelf w = 1.
+unfoldable pub outcomeOf : ℕ → Call → List ℕ → Out
+outcomeOf w startUp t = startUpOut w t
+outcomeOf w (leaving phys phy) t = leavingOut phys phy
+outcomeOf w (identify phys phy address) t = identifyOut phys phy address
+outcomeOf w (elect phys routes) t = electOut phys routes
+outcomeOf w (opening phys routes phy frame buffer) t = openOut w phys routes t phy frame buffer
+outcomeOf w (primitive phys phy number set frame) t = primitiveOut w phys t phy number set frame
+outcomeOf w (broadcastFrame phys phy arrived set frame) t = broadcastOut w phys t phy arrived set frame
+outcomeOf w (smp phys phy carried request response set) t = smpOut w phys t phy carried request response set
 
 -- the buffers that a call is lent to be written, as they were handed in
 unfoldable pub handedIn : Call → List ℕ → List (List ℕ)
@@ -54,45 +55,45 @@ abbrev pub bufferOf : ℕ → Out → List ℕ
 bufferOf k (out a bs) = getD bs k []
 
 -- the permission table after a call: only start-up and SMP are lent it to be written
-unfoldable pub after : Call → List ℕ → List ℕ
-after startUp t = bufferOf 0 (outcomeOf startUp t)
-after (smp phys phy carried request response set) t = bufferOf 1 (outcomeOf (smp phys phy carried request response set) t)
-after (leaving phys phy) t = t
-after (identify phys phy address) t = t
-after (elect phys routes) t = t
-after (opening phys routes phy frame buffer) t = t
-after (primitive phys phy number set frame) t = t
-after (broadcastFrame phys phy arrived set frame) t = t
+unfoldable pub after : ℕ → Call → List ℕ → List ℕ
+after w startUp t = bufferOf 0 (outcomeOf w startUp t)
+after w (smp phys phy carried request response set) t = bufferOf 1 (outcomeOf w (smp phys phy carried request response set) t)
+after w (leaving phys phy) t = t
+after w (identify phys phy address) t = t
+after w (elect phys routes) t = t
+after w (opening phys routes phy frame buffer) t = t
+after w (primitive phys phy number set frame) t = t
+after w (broadcastFrame phys phy arrived set frame) t = t
 
 -- the orders that a call accepted: those of an SMP request answered 00h with C1h
-unfoldable pub accepted : Call → List ℕ → List Order
-accepted (smp phys phy carried request response set) t = acceptedOrders phys t phy carried request (roomFor response set)
-accepted startUp t = []
-accepted (leaving phys phy) t = []
-accepted (identify phys phy address) t = []
-accepted (elect phys routes) t = []
-accepted (opening phys routes phy frame buffer) t = []
-accepted (primitive phys phy number set frame) t = []
-accepted (broadcastFrame phys phy arrived set frame) t = []
+unfoldable pub accepted : ℕ → Call → List ℕ → List Order
+accepted w (smp phys phy carried request response set) t = acceptedOrders w phys t phy carried request (roomFor response set)
+accepted w startUp t = []
+accepted w (leaving phys phy) t = []
+accepted w (identify phys phy address) t = []
+accepted w (elect phys routes) t = []
+accepted w (opening phys routes phy frame buffer) t = []
+accepted w (primitive phys phy number set frame) t = []
+accepted w (broadcastFrame phys phy arrived set frame) t = []
 
 -- "A restart begins the history afresh.": what is kept of the orders os as the call starts, lent the table t. A start-up that is refused (the
 -- table has not its size) is none.
-unfoldable pub kept : Call → List ℕ → List Order → List Order
-kept startUp t os = cond (eqb (length t) 2048) [] os
-kept (leaving phys phy) t os = os
-kept (identify phys phy address) t os = os
-kept (elect phys routes) t os = os
-kept (opening phys routes phy frame buffer) t os = os
-kept (primitive phys phy number set frame) t os = os
-kept (broadcastFrame phys phy arrived set frame) t os = os
-kept (smp phys phy carried request response set) t os = os
+unfoldable pub kept : ℕ → Call → List ℕ → List Order → List Order
+kept w startUp t os = cond (permissionsSized w t) [] os
+kept w (leaving phys phy) t os = os
+kept w (identify phys phy address) t os = os
+kept w (elect phys routes) t os = os
+kept w (opening phys routes phy frame buffer) t os = os
+kept w (primitive phys phy number set frame) t os = os
+kept w (broadcastFrame phys phy arrived set frame) t os = os
+kept w (smp phys phy carried request response set) t os = os
 
 -- "while each call is lent the same permission table and only this software writes it": the table after a run of calls
-unfoldable pub run : List Call → List ℕ → List ℕ
-run [] t = t
-run (c ∷ cs) t = run cs (after c t)
+unfoldable pub run : ℕ → List Call → List ℕ → List ℕ
+run w [] t = t
+run w (c ∷ cs) t = run w cs (after w c t)
 
 -- the orders accepted since the latest start-up, where os were before the run
-unfoldable pub orders : List Call → List ℕ → List Order → List Order
-orders [] t os = os
-orders (c ∷ cs) t os = orders cs (after c t) (kept c t os ++ accepted c t)
+unfoldable pub orders : ℕ → List Call → List ℕ → List Order → List Order
+orders w [] t os = os
+orders w (c ∷ cs) t os = orders w cs (after w c t) (kept w c t os ++ accepted w c t)

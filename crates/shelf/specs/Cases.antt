@@ -14,7 +14,7 @@ use Rattle.shelf.specs.Calls.{answerOf, bufferOf}
 
 -- an SMP request from a phy of the bench rack, with the permission table t
 unfoldable pub asks : List ℕ → ℕ → List ℕ → Out
-asks t phy request = smpOut rackTable t phy 0 request (replicate 1020 0) (replicate 16 0)
+asks t phy request = smpOut 16 rackTable t phy 0 request (replicate 1020 0) (replicate 16 0)
 
 -- from phy 0, on a fresh rack
 unfoldable pub fresh : List ℕ → Out
@@ -31,12 +31,12 @@ after1 = bufferOf 1 (fresh single89)
 -- an OPEN from phy 2 to the address that ends in `last`
 unfoldable pub opens2 : ℕ → Out
 opens2 last =
-    openOut rackTable [] after1 2
+    openOut 16 rackTable [] after1 2
     (1 ∷ 0 ∷ 0 ∷ 0 ∷ (0x50 ∷ 0 ∷ 0 ∷ 0 ∷ 0 ∷ 0 ∷ 0 ∷ last ∷ []) ++ replicate 16 0) (replicate 28 0)
 
 -- primitive 0 on phy 2
 unfoldable pub changes2 : Out
-changes2 = primitiveOut rackTable after1 2 0 (replicate 16 0) (replicate 28 0)
+changes2 = primitiveOut 16 rackTable after1 2 0 (replicate 16 0) (replicate 28 0)
 
 -- 93h with `start`, k and the bytes behind
 unfoldable pub phyZone : ℕ → ℕ → ℕ → List ℕ → List ℕ

@@ -1,6 +1,8 @@
--- What is promised. The proofs are in proofs/: Answers.antt (Refusals, TurnedDown), Exactly.antt (ExactlyOne), Worked.antt (Cases, whose rows
--- are in Cases.antt, and LaterToo), Histories.antt (History, NoOpen, NoBroadcast), WidePorts.antt (ToldPermitted, ToldOnce, EachPortTold, NoReturn,
--- LeavesPort) and Shut.antt (Counted, Supervisor, ShutOut). Quotes are of the three demands, docs/PROMISES.md, of document 01 and of document 02.
+-- What is promised, for every row width w: of document 01's shelf, w = 16, and of the small shelf, w = 1. The proofs are in proofs/: Answers.antt
+-- (Refusals, TurnedDown), Exactly.antt (ExactlyOne), Worked.antt (Cases, whose rows are in Cases.antt, and LaterToo), Histories.antt (History,
+-- BothWays, NoOpen, NoBroadcast), WidePorts.antt (ToldPermitted, ToldOnce, EachPortTold, NoReturn, LeavesPort), Apart.antt (AllHeld, NoOpenApart,
+-- NoBroadcastApart) and Shut.antt (Counted, Supervisor, ShutOut). Quotes are of the three demands, docs/PROMISES.md, of document 01 and of
+-- document 02.
 use mathlib.Core.Path.{_≡_}
 use mathlib.Core.Bool.{Bool, true, false}
 use mathlib.Core.Logic.{_⊎_}
@@ -10,6 +12,7 @@ use lib.ListN.{length, getD, drop}
 use Rattle.wire.specs.declared.PhyNumber.{PhyNumber}
 use Rattle.wire.specs.declared.ZoneGroup.{ZoneGroup}
 use Rattle.wire.specs.PhySet.{member, physIn}
+use Rattle.permit.specs.Permission.{groups, tableSize, P, reaches}
 use Rattle.permit.specs.History.{Zone, latest, Says}
 use Rattle.tables.specs.Outcome.{Answer, refusal, answer, Out, out}
 use Rattle.tables.specs.Phys.{phyGroup, emptySet}
@@ -28,13 +31,13 @@ use Rattle.shelf.specs.Calls.{Call, startUp, leaving, opening, primitive
 
 -- "a numbered refusal changes no lent byte": of every call, whatever it is handed
 abbrev pub Refusals : Type 0
-Refusals = (c : Call) (t : List ℕ) (n : ℕ) (bs : List (List ℕ)) → outcomeOf c t ≡ out (refusal n) bs → bs ≡ handedIn c t
+Refusals = (w : ℕ) (c : Call) (t : List ℕ) (n : ℕ) (bs : List (List ℕ)) → outcomeOf w c t ≡ out (refusal n) bs → bs ≡ handedIn c t
 
 -- "An SMP request turned down by a function result writes only its four response bytes and a phy set of zeros."
 abbrev pub TurnedDown : Type 0
 TurnedDown =
-    (phys t : List ℕ) (phy carried : ℕ) (request response set : List ℕ) (result written told : ℕ) (bs : List (List ℕ))
-    → outcomeOf (smp phys phy carried request response set) t ≡ out (answer (result ∷ written ∷ told ∷ [])) bs → (result ≡ 0 → ⊥)
+    (w : ℕ) (phys t : List ℕ) (phy carried : ℕ) (request response set : List ℕ) (result written told : ℕ) (bs : List (List ℕ))
+    → outcomeOf w (smp phys phy carried request response set) t ≡ out (answer (result ∷ written ∷ told ∷ [])) bs → (result ≡ 0 → ⊥)
     → (written ≡ 4) × (told ≡ 0)
     × (bs ≡ phys ∷ t ∷ ((0x41 ∷ functionOf request ∷ result ∷ 0 ∷ []) ++ drop 4 response) ∷ (emptySet ++ drop 16 set) ∷ [])
 
@@ -51,89 +54,118 @@ ExactlyOne = One linkedAs × One electedAs × One openedAs × One toldAs × One 
 
 -- ---- History
 
--- "From start-up, .. after any run of calls": start-up of any table of 2,048 bytes, and then any calls, further start-ups among them
+-- "From start-up, .. after any run of calls": start-up of any table of its size, and then any calls, further start-ups among them
 abbrev pub History : Type 0
-History = (t : List ℕ) (cs : List Call) → length t ≡ 2048 → Says 16 (run (startUp ∷ cs) t) (orders (startUp ∷ cs) t [])
+History = (w : ℕ) (t : List ℕ) (cs : List Call) → length t ≡ tableSize w → Says w (run w (startUp ∷ cs) t) (orders w (startUp ∷ cs) t [])
+
+-- "permission is mutual": of any two groups, whether the table holds them or not
+abbrev pub BothWays : Type 0
+BothWays =
+    (w : ℕ) (t : List ℕ) (cs : List Call) → length t ≡ tableSize w
+    → (a b : ℕ) → reaches w (run w (startUp ∷ cs) t) a b ≡ reaches w (run w (startUp ∷ cs) t) b a
 
 -- ---- Isolation: "So without one", at any point of any run, where the latest order naming a and b, if any, did not switch them on
 
 -- "no OPEN from a is forwarded to destination group b"
 abbrev pub NoOpen : Type 0
 NoOpen =
-    (t : List ℕ) (cs : List Call) → length t ≡ 2048
+    (w : ℕ) (t : List ℕ) (cs : List Call) → length t ≡ tableSize w
     → (phys routes : List ℕ) (phy : ℕ) (frame buffer : List ℕ) (p : PhyNumber) (g : ZoneGroup) → search phys routes frame ≡ At p g
-    → Zone 16 (openSource phys phy frame) → Zone 16 (g .0)
-    → latest (orders (startUp ∷ cs) t []) (openSource phys phy frame) (g .0) false ≡ false
-    → (q : PhyNumber) → answerOf (openOut phys routes (run (startUp ∷ cs) t) phy frame buffer) ≡ openedAs (Forward q) → ⊥
+    → Zone w (openSource phys phy frame) → Zone w (g .0)
+    → latest (orders w (startUp ∷ cs) t []) (openSource phys phy frame) (g .0) false ≡ false
+    → (q : PhyNumber) → answerOf (openOut w phys routes (run w (startUp ∷ cs) t) phy frame buffer) ≡ openedAs (Forward q) → ⊥
 
 -- "no incoming broadcast from a goes to a phy of b": buffer 0 of both calls is the phy set
 abbrev pub NoBroadcast : Type 0
 NoBroadcast =
-    (t : List ℕ) (cs : List Call) → length t ≡ 2048
-    → (phys : List ℕ) (phy : ℕ) (arrived set frame : List ℕ) (number source i : ℕ) → i < 128 → Zone 16 source → Zone 16 (phyGroup phys i)
-    → latest (orders (startUp ∷ cs) t []) source (phyGroup phys i) false ≡ false
+    (w : ℕ) (t : List ℕ) (cs : List Call) → length t ≡ tableSize w
+    → (phys : List ℕ) (phy : ℕ) (arrived set frame : List ℕ) (number source i : ℕ) → i < 128 → Zone w source → Zone w (phyGroup phys i)
+    → latest (orders w (startUp ∷ cs) t []) source (phyGroup phys i) false ≡ false
     → (v : List ℕ) (bs : List (List ℕ))
-    → ((source ≡ phyGroup phys phy) × (primitiveOut phys (run (startUp ∷ cs) t) phy number set frame ≡ out (answer v) bs))
-    ⊎ ((source ≡ frameSource arrived) × (broadcastOut phys (run (startUp ∷ cs) t) phy arrived set frame ≡ out (answer v) bs))
+    → ((source ≡ phyGroup phys phy) × (primitiveOut w phys (run w (startUp ∷ cs) t) phy number set frame ≡ out (answer v) bs))
+    ⊎ ((source ≡ frameSource arrived) × (broadcastOut w phys (run w (startUp ∷ cs) t) phy arrived set frame ≡ out (answer v) bs))
     → member (getD bs 0 []) i ≡ false
 
 -- ---- Ports: "A port is from now on all ready phys with the same attached address"
 
 -- a primitive, or a broadcast frame, arrived on a phy and was not refused: the source group, and the phy set that the call left (its buffer 0)
-pub data Relayed : List ℕ → List ℕ → ℕ → ℕ → List ℕ → Type 0 where
-  aPrimitive : (phys t : List ℕ) (phy number : ℕ) (set frame v : List ℕ) (bs : List (List ℕ))
-      → outcomeOf (primitive phys phy number set frame) t ≡ out (answer v) bs → Relayed phys t phy (phyGroup phys phy) (getD bs 0 [])
-  aFrame : (phys t : List ℕ) (phy : ℕ) (arrived set frame v : List ℕ) (bs : List (List ℕ))
-      → outcomeOf (broadcastFrame phys phy arrived set frame) t ≡ out (answer v) bs → Relayed phys t phy (frameSource arrived) (getD bs 0 [])
+pub data Relayed : ℕ → List ℕ → List ℕ → ℕ → ℕ → List ℕ → Type 0 where
+  aPrimitive : (w : ℕ) (phys t : List ℕ) (phy number : ℕ) (set frame v : List ℕ) (bs : List (List ℕ))
+      → outcomeOf w (primitive phys phy number set frame) t ≡ out (answer v) bs → Relayed w phys t phy (phyGroup phys phy) (getD bs 0 [])
+  aFrame : (w : ℕ) (phys t : List ℕ) (phy : ℕ) (arrived set frame v : List ℕ) (bs : List (List ℕ))
+      → outcomeOf w (broadcastFrame phys phy arrived set frame) t ≡ out (answer v) bs → Relayed w phys t phy (frameSource arrived) (getD bs 0 [])
 
 -- every told phy is permitted (ready, and the source group may reach its group) and outside the arriving phy's port
 abbrev pub ToldPermitted : Type 0
 ToldPermitted =
-    (phys t : List ℕ) (phy source : ℕ) (set : List ℕ) → Relayed phys t phy source set
-    → (i : ℕ) → i < 128 → member set i ≡ true → (permitted phys t source i ≡ true) × (samePort phys phy i ≡ false)
+    (w : ℕ) (phys t : List ℕ) (phy source : ℕ) (set : List ℕ) → Relayed w phys t phy source set
+    → (i : ℕ) → i < 128 → member set i ≡ true → (permitted w phys t source i ≡ true) × (samePort phys phy i ≡ false)
 
 -- no two told phys are in one port
 abbrev pub ToldOnce : Type 0
 ToldOnce =
-    (phys t : List ℕ) (phy source : ℕ) (set : List ℕ) → Relayed phys t phy source set
+    (w : ℕ) (phys t : List ℕ) (phy source : ℕ) (set : List ℕ) → Relayed w phys t phy source set
     → (i j : ℕ) → i < 128 → j < 128 → member set i ≡ true → member set j ≡ true → samePort phys i j ≡ true → i ≡ j
 
 -- phy i's port has a phy in the set, and it is the port's lowest permitted one
-pub record LowestTold (phys t : List ℕ) (source : ℕ) (set : List ℕ) (i : ℕ) : Type 0 where
+pub record LowestTold (w : ℕ) (phys t : List ℕ) (source : ℕ) (set : List ℕ) (i : ℕ) : Type 0 where
   pub at : ℕ
   pub told : member set at ≡ true
   pub port : samePort phys at i ≡ true
-  pub lowest : (k : ℕ) → permitted phys t source k ≡ true → samePort phys at k ≡ true → at ≤ k
+  pub lowest : (k : ℕ) → permitted w phys t source k ≡ true → samePort phys at k ≡ true → at ≤ k
 
 -- every other port that has a permitted phy has one told, its lowest
 abbrev pub EachPortTold : Type 0
 EachPortTold =
-    (phys t : List ℕ) (phy source : ℕ) (set : List ℕ) → Relayed phys t phy source set
-    → (i : ℕ) → i < 128 → permitted phys t source i ≡ true → samePort phys phy i ≡ false → LowestTold phys t source set i
+    (w : ℕ) (phys t : List ℕ) (phy source : ℕ) (set : List ℕ) → Relayed w phys t phy source set
+    → (i : ℕ) → i < 128 → permitted w phys t source i ≡ true → samePort phys phy i ≡ false → LowestTold w phys t source set i
 
 -- a forwarded OPEN never goes to a phy of the arriving phy's port
 abbrev pub NoReturn : Type 0
 NoReturn =
-    (phys routes t : List ℕ) (phy : ℕ) (frame buffer : List ℕ) (q : PhyNumber)
-    → answerOf (outcomeOf (opening phys routes phy frame buffer) t) ≡ openedAs (Forward q) → samePort phys phy (q .0) ≡ false
+    (w : ℕ) (phys routes t : List ℕ) (phy : ℕ) (frame buffer : List ℕ) (q : PhyNumber)
+    → answerOf (outcomeOf w (opening phys routes phy frame buffer) t) ≡ openedAs (Forward q) → samePort phys phy (q .0) ≡ false
 
 -- a phy that leaves ready leaves its port: it is by itself in the phy table that the call leaves (its buffer 0)
 abbrev pub LeavesPort : Type 0
 LeavesPort =
-    (phys t : List ℕ) (phy : ℕ) (v : List ℕ) (bs : List (List ℕ)) → outcomeOf (leaving phys phy) t ≡ out (answer v) bs
+    (w : ℕ) (phys t : List ℕ) (phy : ℕ) (v : List ℕ) (bs : List (List ℕ)) → outcomeOf w (leaving phys phy) t ≡ out (answer v) bs
     → (j : ℕ) → samePort (getD bs 0 []) phy j ≡ true → phy ≡ j
+
+-- ---- Groups that the table does not hold: "Groups 8 to 127 reach only group 1 and are reached only by it"
+
+-- document 01's table holds every group: there it is P
+abbrev pub AllHeld : Type 0
+AllHeld = (t : List ℕ) (a b : ℕ) → a < 128 → b < 128 → reaches 16 t a b ≡ P 16 t a b
+
+-- two groups of which the table does not hold both, and neither is group 1
+abbrev pub Apart : ℕ → ℕ → ℕ → Type 0
+Apart w a b = ((groups w ≤ a) ⊎ (groups w ≤ b)) × (a ≡ 1 → ⊥) × (b ≡ 1 → ⊥)
+
+-- no OPEN is forwarded between them, whatever the table holds and whatever was ordered
+abbrev pub NoOpenApart : Type 0
+NoOpenApart =
+    (w : ℕ) (phys routes t : List ℕ) (phy : ℕ) (frame buffer : List ℕ) (p : PhyNumber) (g : ZoneGroup) → search phys routes frame ≡ At p g
+    → Apart w (openSource phys phy frame) (g .0)
+    → (q : PhyNumber) → answerOf (outcomeOf w (opening phys routes phy frame buffer) t) ≡ openedAs (Forward q) → ⊥
+
+-- and no incoming broadcast from the one goes to a phy of the other
+abbrev pub NoBroadcastApart : Type 0
+NoBroadcastApart =
+    (w : ℕ) (phys t : List ℕ) (phy source : ℕ) (set : List ℕ) → Relayed w phys t phy source set
+    → (i : ℕ) → i < 128 → Apart w source (phyGroup phys i) → member set i ≡ false
 
 -- ---- The count
 
 -- "the count is the number of ones in the sixteen bytes": of the phy set that the same call leaves
 abbrev pub Counted : Type 0
 Counted =
-    ((phys t : List ℕ) (phy number : ℕ) (set frame : List ℕ) (n : ℕ) (bs : List (List ℕ))
-    → outcomeOf (primitive phys phy number set frame) t ≡ out (answer (n ∷ [])) bs → n ≡ physIn (getD bs 0 []))
-    × ((phys t : List ℕ) (phy : ℕ) (arrived set frame : List ℕ) (n : ℕ) (bs : List (List ℕ))
-    → outcomeOf (broadcastFrame phys phy arrived set frame) t ≡ out (answer (n ∷ [])) bs → n ≡ physIn (getD bs 0 []))
-    × ((phys t : List ℕ) (phy carried : ℕ) (request response set : List ℕ) (result written n : ℕ) (bs : List (List ℕ))
-    → outcomeOf (smp phys phy carried request response set) t ≡ out (answer (result ∷ written ∷ n ∷ [])) bs → n ≡ physIn (getD bs 3 []))
+    ((w : ℕ) (phys t : List ℕ) (phy number : ℕ) (set frame : List ℕ) (n : ℕ) (bs : List (List ℕ))
+    → outcomeOf w (primitive phys phy number set frame) t ≡ out (answer (n ∷ [])) bs → n ≡ physIn (getD bs 0 []))
+    × ((w : ℕ) (phys t : List ℕ) (phy : ℕ) (arrived set frame : List ℕ) (n : ℕ) (bs : List (List ℕ))
+    → outcomeOf w (broadcastFrame phys phy arrived set frame) t ≡ out (answer (n ∷ [])) bs → n ≡ physIn (getD bs 0 []))
+    × ((w : ℕ) (phys t : List ℕ) (phy carried : ℕ) (request response set : List ℕ) (result written n : ℕ) (bs : List (List ℕ))
+    → outcomeOf w (smp phys phy carried request response set) t ≡ out (answer (result ∷ written ∷ n ∷ [])) bs → n ≡ physIn (getD bs 3 []))
 
 -- ---- The supervisor: "higher priority wins, then the greater address"
 abbrev pub Supervisor : Type 0
@@ -147,9 +179,9 @@ refused (refusal n) = true
 refused (answer values) = false
 
 -- refusing every call; one answer for all; changing nothing
-abbrev pub ShutOut : Type 0
-ShutOut =
-    (((c : Call) (t : List ℕ) → refused (answerOf (outcomeOf c t)) ≡ true) → ⊥)
+abbrev pub ShutOut : ℕ → Type 0
+ShutOut w =
+    (((c : Call) (t : List ℕ) → refused (answerOf (outcomeOf w c t)) ≡ true) → ⊥)
     × ((a : Answer) → ((phys t : List ℕ) (phy carried : ℕ) (request response set : List ℕ)
-    → answerOf (outcomeOf (smp phys phy carried request response set) t) ≡ a) → ⊥)
-    × (((c : Call) (t : List ℕ) → after c t ≡ t) → ⊥)
+    → answerOf (outcomeOf w (smp phys phy carried request response set) t) ≡ a) → ⊥)
+    × (((c : Call) (t : List ℕ) → after w c t ≡ t) → ⊥)

@@ -6,12 +6,13 @@ use mathlib.Core.List.{List, [], _∷_, _++_}
 use Prim.Native.Nat.{ℕ, zero, suc, _+_, _/_, _%_, _≤_}
 use native.Mathlib.Decide.{ℕ-discrete}
 use native.Mathlib.Omega.{arith}
-use borrow.Author.Tests.{eqb-true, leb-true, eq-eqb, ne-eqb}
+use borrow.Author.Tests.{leb-true, eq-eqb, ne-eqb}
 use lib.Dec.{eqb, leb}
 use lib.ListN.{length, getD, drop, length-append}
 use Rattle.wire.specs.PhySet.{physIn}
 use Rattle.wire.proofs.Sets.{length-setOf, count-front}
-use Rattle.permit.specs.Permission.{permissionsSized}
+use Rattle.permit.specs.Permission.{permissionsSized, Width, Table}
+use Rattle.permit.proofs.Laws.{table-sized}
 use Rattle.permit.specs.Orders.{Order, apply}
 use Rattle.permit.specs.History.{Valid}
 use Rattle.tables.specs.Refusals.{firstRefusal}
@@ -28,66 +29,66 @@ use Rattle.zone_report.specs.ZoneReport.{reportReply}
 use Rattle.smp.specs.Smp.{functionOf, smpReply, lengthField, roomFor, smpChecks, valuesOf, buffersOf, smpOut, acceptedOrders}
 
 -- ---- the rule that the function byte picks
-module _ (phys permissions : List ℕ) (phy carried : ℕ) (request : List ℕ) where
+module _ (w : ℕ) (phys permissions : List ℕ) (phy carried : ℕ) (request : List ℕ) where
   abbrev F : ℕ
   F = functionOf request
 
-  pub is-93 : F ≡ 0x93 → smpReply phys permissions phy carried request ≡ phyZoneReply phys permissions phy carried request
+  pub is-93 : F ≡ 0x93 → smpReply w phys permissions phy carried request ≡ phyZoneReply w phys permissions phy carried request
   unfolding smpReply
   is-93 e = rw (eq-eqb F 0x93 e)
 
-  pub is-c1 : F ≡ 0xc1 → smpReply phys permissions phy carried request ≡ permissionReply phys permissions phy carried request
+  pub is-c1 : F ≡ 0xc1 → smpReply w phys permissions phy carried request ≡ permissionReply w phys permissions phy carried request
   unfolding smpReply
   is-c1 e = let n : F ≡ 0x93 → ⊥ = λ z. omega arith in rw (ne-eqb F 0x93 n, eq-eqb F 0xc1 e)
 
-  pub is-51 : F ≡ 0x51 → smpReply phys permissions phy carried request ≡ reportReply phys permissions phy carried request
+  pub is-51 : F ≡ 0x51 → smpReply w phys permissions phy carried request ≡ reportReply w phys permissions phy carried request
   unfolding smpReply
   is-51 e =
       let n : F ≡ 0x93 → ⊥ = λ z. omega arith in
       let m : F ≡ 0xc1 → ⊥ = λ z. omega arith in
       rw (ne-eqb F 0x93 n, ne-eqb F 0xc1 m, eq-eqb F 0x51 e)
 
-  pub is-none : (F ≡ 0x93 → ⊥) → (F ≡ 0xc1 → ⊥) → (F ≡ 0x51 → ⊥) → smpReply phys permissions phy carried request ≡ turnedDown 0x01 phys permissions
+  pub is-none : (F ≡ 0x93 → ⊥) → (F ≡ 0xc1 → ⊥) → (F ≡ 0x51 → ⊥) → smpReply w phys permissions phy carried request ≡ turnedDown 0x01 phys permissions
   unfolding smpReply
   is-none n m k = rw (ne-eqb F 0x93 n, ne-eqb F 0xc1 m, ne-eqb F 0x51 k)
 
   -- what the arms leave
-  module _ (response set : List ℕ) (r w : ℕ) (phys₁ permissions₁ response₁ set₁ : List ℕ) where
+  module _ (response set : List ℕ) (r len : ℕ) (phys₁ permissions₁ response₁ set₁ : List ℕ) where
     abbrev Done : Type 0
-    Done = Leaves F (smpReply phys permissions phy carried request) response set r w phys₁ permissions₁ response₁ set₁
+    Done = Leaves F (smpReply w phys permissions phy carried request) response set r len phys₁ permissions₁ response₁ set₁
 
-    carry : (f : ℕ) (p : Reply) → F ≡ f → smpReply phys permissions phy carried request ≡ p
-        → Leaves f p response set r w phys₁ permissions₁ response₁ set₁ → Leaves F (smpReply phys permissions phy carried request) response set r w phys₁ permissions₁ response₁ set₁
+    carry : (f : ℕ) (p : Reply) → F ≡ f → smpReply w phys permissions phy carried request ≡ p
+        → Leaves f p response set r len phys₁ permissions₁ response₁ set₁ → Leaves F (smpReply w phys permissions phy carried request) response set r len phys₁ permissions₁ response₁ set₁
     carry f p e q l = rw (e, q) l
 
-    pub leaves-93 : F ≡ 0x93 → Leaves 0x93 (phyZoneReply phys permissions phy carried request) response set r w phys₁ permissions₁ response₁ set₁
-        → Leaves F (smpReply phys permissions phy carried request) response set r w phys₁ permissions₁ response₁ set₁
+    pub leaves-93 : F ≡ 0x93 → Leaves 0x93 (phyZoneReply w phys permissions phy carried request) response set r len phys₁ permissions₁ response₁ set₁
+        → Leaves F (smpReply w phys permissions phy carried request) response set r len phys₁ permissions₁ response₁ set₁
     leaves-93 e l = carry 0x93 _ e (is-93 e) l
 
-    pub leaves-c1 : F ≡ 0xc1 → Leaves 0xc1 (permissionReply phys permissions phy carried request) response set r w phys₁ permissions₁ response₁ set₁
-        → Leaves F (smpReply phys permissions phy carried request) response set r w phys₁ permissions₁ response₁ set₁
+    pub leaves-c1 : F ≡ 0xc1 → Leaves 0xc1 (permissionReply w phys permissions phy carried request) response set r len phys₁ permissions₁ response₁ set₁
+        → Leaves F (smpReply w phys permissions phy carried request) response set r len phys₁ permissions₁ response₁ set₁
     leaves-c1 e l = carry 0xc1 _ e (is-c1 e) l
 
-    pub leaves-51 : F ≡ 0x51 → Leaves 0x51 (reportReply phys permissions phy carried request) response set r w phys₁ permissions₁ response₁ set₁
-        → Leaves F (smpReply phys permissions phy carried request) response set r w phys₁ permissions₁ response₁ set₁
+    pub leaves-51 : F ≡ 0x51 → Leaves 0x51 (reportReply w phys permissions phy carried request) response set r len phys₁ permissions₁ response₁ set₁
+        → Leaves F (smpReply w phys permissions phy carried request) response set r len phys₁ permissions₁ response₁ set₁
     leaves-51 e l = carry 0x51 _ e (is-51 e) l
 
-  pub leaves-none : (response set response₁ set₁ : List ℕ) (r w : ℕ) → (F ≡ 0x93 → ⊥) → (F ≡ 0xc1 → ⊥) → (F ≡ 0x51 → ⊥) → r ≡ 1 → w ≡ 4
+  pub leaves-none : (response set response₁ set₁ : List ℕ) (r len : ℕ) → (F ≡ 0x93 → ⊥) → (F ≡ 0xc1 → ⊥) → (F ≡ 0x51 → ⊥) → r ≡ 1 → len ≡ 4
       → response₁ ≡ (0x41 ∷ F ∷ 1 ∷ 0 ∷ []) ++ drop 4 response → set₁ ≡ emptySet ++ drop 16 set
-      → Leaves F (smpReply phys permissions phy carried request) response set r w phys permissions response₁ set₁
-  leaves-none response set response₁ set₁ r w n m k er ew ea es =
+      → Leaves F (smpReply w phys permissions phy carried request) response set r len phys permissions response₁ set₁
+  leaves-none response set response₁ set₁ r len n m k er ew ea es =
       rw (is-none n m k)
       (record { answered = er; counted = ew; physThen = refl; permissionsThen = refl; responded = ea; told = es })
 
   -- ---- by cases on the function byte, once for every law of the reply
-  each : (Q : Reply → Type 0) → Q (phyZoneReply phys permissions phy carried request) → Q (permissionReply phys permissions phy carried request)
-      → Q (reportReply phys permissions phy carried request) → Q (turnedDown 0x01 phys permissions) → Q (smpReply phys permissions phy carried request)
+  each : (Q : Reply → Type 0) → Q (phyZoneReply w phys permissions phy carried request) → Q (permissionReply w phys permissions phy carried request)
+      → Q (reportReply w phys permissions phy carried request) → Q (turnedDown 0x01 phys permissions) → Q (smpReply w phys permissions phy carried request)
   unfolding smpReply
   each Q a b c d = go (eqb F 0x93) (eqb F 0xc1) (eqb F 0x51)
     where
       go : (x y z : Bool)
-          → Q (cond x (phyZoneReply phys permissions phy carried request) (cond y (permissionReply phys permissions phy carried request)
-          (cond z (reportReply phys permissions phy carried request) (turnedDown 0x01 phys permissions))))
+          → Q (cond x (phyZoneReply w phys permissions phy carried request) (cond y (permissionReply w phys permissions phy carried request)
+          (cond z (reportReply w phys permissions phy carried request) (turnedDown 0x01 phys permissions))))
       go true y z = a
       go false true z = b
       go false false true = c
@@ -116,23 +117,23 @@ update-16 phys request = go (eqb (getD request 9 0 % 2) 1)
     go false = empty-16
 
 -- its set has sixteen bytes
-pub set-16 : (phys permissions : List ℕ) (phy carried : ℕ) (request : List ℕ) → length ((smpReply phys permissions phy carried request) .set) ≡ 16
+pub set-16 : (w : ℕ) (phys permissions : List ℕ) (phy carried : ℕ) (request : List ℕ) → length ((smpReply w phys permissions phy carried request) .set) ≡ 16
 unfolding phyZoneReply permissionReply reportReply
-set-16 phys permissions phy carried request =
-    each phys permissions phy carried request (λ p. length (p .set) ≡ 16)
+set-16 w phys permissions phy carried request =
+    each w phys permissions phy carried request (λ p. length (p .set) ≡ 16)
     (either (λ p. length (p .set) ≡ 16) _ _ phys permissions (ready-16 phys) (λ m. empty-16))
     (either (λ p. length (p .set) ≡ 16) _ _ phys permissions (update-16 phys request) (λ m. empty-16))
     (either (λ p. length (p .set) ≡ 16) _ _ phys permissions empty-16 (λ m. empty-16))
     empty-16
 
 -- ---- the length field
-module _ (phys permissions : List ℕ) (phy carried : ℕ) (request : List ℕ) where
-  pub field-51 : (r : ℕ) → functionOf request ≡ 0x51 → r ≡ length ((reportReply phys permissions phy carried request) .rest) / 4
-      → r ≡ lengthField phys permissions phy carried request
+module _ (w : ℕ) (phys permissions : List ℕ) (phy carried : ℕ) (request : List ℕ) where
+  pub field-51 : (r : ℕ) → functionOf request ≡ 0x51 → r ≡ length ((reportReply w phys permissions phy carried request) .rest) / 4
+      → r ≡ lengthField w phys permissions phy carried request
   unfolding lengthField
-  field-51 r e h = rw (is-51 phys permissions phy carried request e) h
+  field-51 r e h = rw (is-51 w phys permissions phy carried request e) h
 
-  pub field-none : (functionOf request ≡ 0x51 → ⊥) → 0 ≡ lengthField phys permissions phy carried request
+  pub field-none : (functionOf request ≡ 0x51 → ⊥) → 0 ≡ lengthField w phys permissions phy carried request
   unfolding lengthField smpReply phyZoneReply permissionReply
   field-none n = rw (ne-eqb (functionOf request) 0x51 n) (go (eqb (functionOf request) 0x93) (eqb (functionOf request) 0xc1))
     where
@@ -140,7 +141,7 @@ module _ (phys permissions : List ℕ) (phy carried : ℕ) (request : List ℕ) 
       none k p e = either (λ q. 0 ≡ length (q .rest) / 4) k p phys permissions (rw e) (λ m. refl)
 
       go : (x y : Bool)
-          → 0 ≡ length ((cond x (phyZoneReply phys permissions phy carried request) (cond y (permissionReply phys permissions phy carried request)
+          → 0 ≡ length ((cond x (phyZoneReply w phys permissions phy carried request) (cond y (permissionReply w phys permissions phy carried request)
           (turnedDown 0x01 phys permissions))) .rest) / 4
       go true y = none _ _ refl
       go false true = none _ _ refl
@@ -148,20 +149,20 @@ module _ (phys permissions : List ℕ) (phy carried : ℕ) (request : List ℕ) 
 
 -- ---- the call
 -- as the code has it: s is what was asked of the permission table's size, r the number of the shared rows
-pub smp-whole : (phys permissions : List ℕ) (phy : ℕ) (room s : Bool) (r : ℕ) → s ≡ permissionsSized 16 permissions
-    → r ≡ firstRefusal (arrivalChecks phys phy s room true) → r ≡ 0 → length permissions ≡ 2048
-smp-whole phys permissions phy room s r es e z = eqb-true _ _ (sym es ∙ arrived phys phy s room true r e z .sized)
+pub smp-table : (w : ℕ) (phys permissions : List ℕ) (phy : ℕ) (room s : Bool) (r : ℕ) → Width w → s ≡ permissionsSized w permissions
+    → r ≡ firstRefusal (arrivalChecks phys phy s room true) → r ≡ 0 → Table w permissions
+smp-table w phys permissions phy room s r h es e z = table-sized w permissions h (sym es ∙ arrived phys phy s room true r e z .sized)
 
-pub smp-lent : (phys permissions : List ℕ) (phy carried : ℕ) (request response set : List ℕ) (r : ℕ)
-    → r ≡ firstRefusal (smpChecks phys permissions phy carried request (roomFor response set)) → r ≡ 0
-    → Lent phys permissions phy (length request) (length response) (length set)
-smp-lent phys permissions phy carried request response set r e z =
-    let k = arrival-clear phys phy (permissionsSized 16 permissions) (roomFor response set) true _ r e z tt in
+pub smp-lent : (w : ℕ) (phys permissions : List ℕ) (phy carried : ℕ) (request response set : List ℕ) (r : ℕ) → Width w
+    → r ≡ firstRefusal (smpChecks w phys permissions phy carried request (roomFor response set)) → r ≡ 0
+    → Lent w phys permissions phy (length request) (length response) (length set)
+smp-lent w phys permissions phy carried request response set r h e z =
+    let k = arrival-clear phys phy (permissionsSized w permissions) (roomFor response set) true _ r e z tt in
     let room = both (leb 1020 (length response)) (leb 16 (length set)) (k .0 .roomy) in
     record {
       records = k .0 .records;
       most = k .0 .most;
-      whole = eqb-true _ _ (k .0 .sized);
+      table = table-sized w permissions h (k .0 .sized);
       there = k .0 .there;
       head = k .1 .0;
       responseRoom = leb-true _ _ (room .0);
@@ -169,19 +170,19 @@ smp-lent phys permissions phy carried request response set r e z =
     }
 
 -- the set that a rule leaves has sixteen bytes at least
-pub told-long : (phys permissions : List ℕ) (phy carried : ℕ) (request response set : List ℕ) (result written : ℕ) (phys₁ permissions₁ response₁ set₁ : List ℕ)
-    → Leaves (functionOf request) (smpReply phys permissions phy carried request) response set result written phys₁ permissions₁ response₁ set₁ → 16 ≤ length set₁
-told-long phys permissions phy carried request response set result written phys₁ permissions₁ response₁ set₁ l =
-    omega (arith, ap length (l .told), length-append ((smpReply phys permissions phy carried request) .set) (drop 16 set), set-16 phys permissions phy carried request)
+pub told-long : (w : ℕ) (phys permissions : List ℕ) (phy carried : ℕ) (request response set : List ℕ) (result written : ℕ) (phys₁ permissions₁ response₁ set₁ : List ℕ)
+    → Leaves (functionOf request) (smpReply w phys permissions phy carried request) response set result written phys₁ permissions₁ response₁ set₁ → 16 ≤ length set₁
+told-long w phys permissions phy carried request response set result written phys₁ permissions₁ response₁ set₁ l =
+    omega (arith, ap length (l .told), length-append ((smpReply w phys permissions phy carried request) .set) (drop 16 set), set-16 w phys permissions phy carried request)
 
-pub smp-gives : (phys permissions : List ℕ) (phy carried : ℕ) (request response set : List ℕ) (r n result written count : ℕ) (old : List (List ℕ))
+pub smp-gives : (w : ℕ) (phys permissions : List ℕ) (phy carried : ℕ) (request response set : List ℕ) (r n result written count : ℕ) (old : List (List ℕ))
     (phys₁ permissions₁ response₁ set₁ : List ℕ) → r ≡ n → r ≡ 0
-    → Leaves (functionOf request) (smpReply phys permissions phy carried request) response set result written phys₁ permissions₁ response₁ set₁ → count ≡ physIn set₁
+    → Leaves (functionOf request) (smpReply w phys permissions phy carried request) response set result written phys₁ permissions₁ response₁ set₁ → count ≡ physIn set₁
     → out (answer (result ∷ written ∷ count ∷ [])) (phys₁ ∷ permissions₁ ∷ response₁ ∷ set₁ ∷ [])
-    ≡ outcome n (valuesOf (smpReply phys permissions phy carried request)) old (buffersOf (functionOf request) (smpReply phys permissions phy carried request) response set)
-smp-gives phys permissions phy carried request response set r n result written count old phys₁ permissions₁ response₁ set₁ e z l ec =
-    let h : count ≡ physIn ((smpReply phys permissions phy carried request) .set) =
-    ec ∙ ap physIn (l .told) ∙ count-front _ (drop 16 set) (set-16 phys permissions phy carried request) in
+    ≡ outcome n (valuesOf (smpReply w phys permissions phy carried request)) old (buffersOf (functionOf request) (smpReply w phys permissions phy carried request) response set)
+smp-gives w phys permissions phy carried request response set r n result written count old phys₁ permissions₁ response₁ set₁ e z l ec =
+    let h : count ≡ physIn ((smpReply w phys permissions phy carried request) .set) =
+    ec ∙ ap physIn (l .told) ∙ count-front _ (drop 16 set) (set-16 w phys permissions phy carried request) in
     gives _ _ r n _ _ _ e z (values (l .answered) (l .counted) h) (buffers (l .physThen) (l .permissionsThen) (l .responded) (l .told))
   where
     values : {a b c d f g : ℕ} → a ≡ b → c ≡ d → f ≡ g → answer (a ∷ c ∷ f ∷ []) ≡ answer (b ∷ d ∷ g ∷ [])
@@ -191,10 +192,10 @@ smp-gives phys permissions phy carried request response set r n result written c
     buffers p q t u = cc
 
 -- the permission table after the call
-unfoldable pub permissionsAfter : List ℕ → List ℕ → ℕ → ℕ → List ℕ → Bool → List ℕ
-permissionsAfter phys permissions phy carried request room =
-    cond (eqb (firstRefusal (smpChecks phys permissions phy carried request room)) 0)
-    ((smpReply phys permissions phy carried request) .permissions)
+unfoldable pub permissionsAfter : ℕ → List ℕ → List ℕ → ℕ → ℕ → List ℕ → Bool → List ℕ
+permissionsAfter w phys permissions phy carried request room =
+    cond (eqb (firstRefusal (smpChecks w phys permissions phy carried request room)) 0)
+    ((smpReply w phys permissions phy carried request) .permissions)
     permissions
 
 -- ---- the orders that the call accepts
@@ -202,13 +203,13 @@ permissionsAfter phys permissions phy carried request room =
 same-table : (n : ℕ) (p : Reply) (phys permissions : List ℕ) → p .permissions ≡ permissions → (replied n p phys permissions) .permissions ≡ permissions
 same-table n p phys permissions e = either (λ q. q .permissions ≡ permissions) n p phys permissions e (λ m. refl)
 
-module _ (phys permissions : List ℕ) (phy carried : ℕ) (request : List ℕ) where
-  other-table : (functionOf request ≡ 0xc1 → ⊥) → (smpReply phys permissions phy carried request) .permissions ≡ permissions
+module _ (w : ℕ) (phys permissions : List ℕ) (phy carried : ℕ) (request : List ℕ) where
+  other-table : (functionOf request ≡ 0xc1 → ⊥) → (smpReply w phys permissions phy carried request) .permissions ≡ permissions
   unfolding smpReply phyZoneReply reportReply
   other-table n = rw (ne-eqb (functionOf request) 0xc1 n) (go (eqb (functionOf request) 0x93) (eqb (functionOf request) 0x51))
     where
       go : (x z : Bool)
-          → (cond x (phyZoneReply phys permissions phy carried request) (cond z (reportReply phys permissions phy carried request)
+          → (cond x (phyZoneReply w phys permissions phy carried request) (cond z (reportReply w phys permissions phy carried request)
           (turnedDown 0x01 phys permissions))) .permissions ≡ permissions
       go true z = same-table _ _ phys permissions refl
       go false true = same-table _ _ phys permissions refl
@@ -216,62 +217,62 @@ module _ (phys permissions : List ℕ) (phy carried : ℕ) (request : List ℕ) 
 
   -- C1h: the orders at 00h, and nothing at any other result
   order-table : functionOf request ≡ 0xc1
-      → (smpReply phys permissions phy carried request) .permissions
-      ≡ apply 16 (cond (eqb ((smpReply phys permissions phy carried request) .result) 0) (ordersOf request) []) permissions
+      → (smpReply w phys permissions phy carried request) .permissions
+      ≡ apply w (cond (eqb ((smpReply w phys permissions phy carried request) .result) 0) (ordersOf w request) []) permissions
   unfolding permissionReply apply
-  order-table e = rw (is-c1 phys permissions phy carried request e) (either
-      (λ q. q .permissions ≡ apply 16 (cond (eqb (q .result) 0) (ordersOf request) []) permissions)
-      (firstRefusal (permissionChecks phys permissions phy carried request)) _ phys permissions refl
+  order-table e = rw (is-c1 w phys permissions phy carried request e) (either
+      (λ q. q .permissions ≡ apply w (cond (eqb (q .result) 0) (ordersOf w request) []) permissions)
+      (firstRefusal (permissionChecks w phys permissions phy carried request)) _ phys permissions refl
       (λ m. rw (ne-eqb (suc m) 0 (λ z. omega arith))))
 
   -- the permission table after the call is the table before with the accepted orders applied
   pub orders-applied : (room : Bool)
-      → permissionsAfter phys permissions phy carried request room
-      ≡ apply 16 (acceptedOrders phys permissions phy carried request room) permissions
+      → permissionsAfter w phys permissions phy carried request room
+      ≡ apply w (acceptedOrders w phys permissions phy carried request room) permissions
   unfolding permissionsAfter acceptedOrders apply
   orders-applied room =
-      go (eqb (firstRefusal (smpChecks phys permissions phy carried request room)) 0) (ℕ-discrete (functionOf request) 0xc1)
+      go (eqb (firstRefusal (smpChecks w phys permissions phy carried request room)) 0) (ℕ-discrete (functionOf request) 0xc1)
     where
       go : (x : Bool) → Dec (functionOf request ≡ 0xc1)
-          → cond x ((smpReply phys permissions phy carried request) .permissions) permissions
-          ≡ apply 16 (cond (x && (eqb (functionOf request) 0xc1 && eqb ((smpReply phys permissions phy carried request) .result) 0)) (ordersOf request) []) permissions
+          → cond x ((smpReply w phys permissions phy carried request) .permissions) permissions
+          ≡ apply w (cond (x && (eqb (functionOf request) 0xc1 && eqb ((smpReply w phys permissions phy carried request) .result) 0)) (ordersOf w request) []) permissions
       go false d = refl
       go true (yes e) = rw (eq-eqb (functionOf request) 0xc1 e) (order-table e)
       go true (no n) = rw (ne-eqb (functionOf request) 0xc1 n) (other-table n)
 
   -- a reply to C1h whose result is 00h is to a request that its checks let pass
-  passed : functionOf request ≡ 0xc1 → (smpReply phys permissions phy carried request) .result ≡ 0
-      → firstRefusal (permissionChecks phys permissions phy carried request) ≡ 0
+  passed : functionOf request ≡ 0xc1 → (smpReply w phys permissions phy carried request) .result ≡ 0
+      → firstRefusal (permissionChecks w phys permissions phy carried request) ≡ 0
   unfolding permissionReply replied
-  passed e z = go (firstRefusal (permissionChecks phys permissions phy carried request)) _ (rw (is-c1 phys permissions phy carried request e) at z)
+  passed e z = go (firstRefusal (permissionChecks w phys permissions phy carried request)) _ (rw (is-c1 w phys permissions phy carried request e) at z)
     where
       go : (n : ℕ) (p : Reply) → (replied n p phys permissions) .result ≡ 0 → n ≡ 0
       go zero p h = refl
       go (suc n) p h = h
 
   -- the accepted orders name groups from 2 to 127
-  pub orders-valid : (room : Bool) → Valid 16 (acceptedOrders phys permissions phy carried request room)
+  pub orders-valid : (room : Bool) → Valid w (acceptedOrders w phys permissions phy carried request room)
   unfolding acceptedOrders
   orders-valid room =
-      go (eqb (firstRefusal (smpChecks phys permissions phy carried request room)) 0) (ℕ-discrete (functionOf request) 0xc1)
-      (ℕ-discrete ((smpReply phys permissions phy carried request) .result) 0)
+      go (eqb (firstRefusal (smpChecks w phys permissions phy carried request room)) 0) (ℕ-discrete (functionOf request) 0xc1)
+      (ℕ-discrete ((smpReply w phys permissions phy carried request) .result) 0)
     where
-      go : (x : Bool) → Dec (functionOf request ≡ 0xc1) → Dec ((smpReply phys permissions phy carried request) .result ≡ 0)
-          → Valid 16 (cond (x && (eqb (functionOf request) 0xc1 && eqb ((smpReply phys permissions phy carried request) .result) 0)) (ordersOf request) [])
+      go : (x : Bool) → Dec (functionOf request ≡ 0xc1) → Dec ((smpReply w phys permissions phy carried request) .result ≡ 0)
+          → Valid w (cond (x && (eqb (functionOf request) 0xc1 && eqb ((smpReply w phys permissions phy carried request) .result) 0)) (ordersOf w request) [])
       go false d f = tt
       go true (no n) f = rw (ne-eqb (functionOf request) 0xc1 n) tt
-      go true (yes e) (no n) = rw (eq-eqb (functionOf request) 0xc1 e, ne-eqb ((smpReply phys permissions phy carried request) .result) 0 n) tt
+      go true (yes e) (no n) = rw (eq-eqb (functionOf request) 0xc1 e, ne-eqb ((smpReply w phys permissions phy carried request) .result) 0 n) tt
       go true (yes e) (yes z) =
-          rw (eq-eqb (functionOf request) 0xc1 e, eq-eqb ((smpReply phys permissions phy carried request) .result) 0 z)
-          (valid-orders request (accepted phys permissions phy carried request 0 (sym (passed e z)) refl))
+          rw (eq-eqb (functionOf request) 0xc1 e, eq-eqb ((smpReply w phys permissions phy carried request) .result) 0 z)
+          (valid-orders w request (accepted w phys permissions phy carried request 0 (sym (passed e z)) refl))
 
 -- ---- a request that is turned down: four response bytes, a zero set, no table changed
-module _ (phys permissions : List ℕ) (phy carried : ℕ) (request : List ℕ) where
-  pub down : ((smpReply phys permissions phy carried request) .result ≡ 0 → ⊥)
-      → smpReply phys permissions phy carried request ≡ turnedDown ((smpReply phys permissions phy carried request) .result) phys permissions
+module _ (w : ℕ) (phys permissions : List ℕ) (phy carried : ℕ) (request : List ℕ) where
+  pub down : ((smpReply w phys permissions phy carried request) .result ≡ 0 → ⊥)
+      → smpReply w phys permissions phy carried request ≡ turnedDown ((smpReply w phys permissions phy carried request) .result) phys permissions
   unfolding phyZoneReply permissionReply reportReply
   down =
-      each phys permissions phy carried request Down
+      each w phys permissions phy carried request Down
       (either Down _ _ phys permissions (λ h. absurd (h refl)) (λ m h. refl))
       (either Down _ _ phys permissions (λ h. absurd (h refl)) (λ m h. refl))
       (either Down _ _ phys permissions (λ h. absurd (h refl)) (λ m h. refl))

@@ -27,16 +27,16 @@ abbrev pub functionOf : List ℕ → ℕ
 functionOf request = getD request 1 0
 
 -- "the function byte picks one of three rules; any other byte answers 01h"
-unfoldable pub smpReply : List ℕ → List ℕ → ℕ → ℕ → List ℕ → Reply
-smpReply phys permissions phy carried request =
-    cond (eqb (functionOf request) 0x93) (phyZoneReply phys permissions phy carried request)
-    (cond (eqb (functionOf request) 0xc1) (permissionReply phys permissions phy carried request)
-    (cond (eqb (functionOf request) 0x51) (reportReply phys permissions phy carried request)
+unfoldable pub smpReply : ℕ → List ℕ → List ℕ → ℕ → ℕ → List ℕ → Reply
+smpReply w phys permissions phy carried request =
+    cond (eqb (functionOf request) 0x93) (phyZoneReply w phys permissions phy carried request)
+    (cond (eqb (functionOf request) 0xc1) (permissionReply w phys permissions phy carried request)
+    (cond (eqb (functionOf request) 0x51) (reportReply w phys permissions phy carried request)
     (turnedDown 0x01 phys permissions)))
 
 -- "a response whose length field would pass 255"
-unfoldable pub lengthField : List ℕ → List ℕ → ℕ → ℕ → List ℕ → ℕ
-lengthField phys permissions phy carried request = length ((smpReply phys permissions phy carried request) .rest) / 4
+unfoldable pub lengthField : ℕ → List ℕ → List ℕ → ℕ → ℕ → List ℕ → ℕ
+lengthField w phys permissions phy carried request = length ((smpReply w phys permissions phy carried request) .rest) / 4
 
 -- "response buffer under 1,020 bytes, phy set under 16": whether there is room for both
 abbrev pub roomFor : List ℕ → List ℕ → Bool
@@ -47,10 +47,10 @@ abbrev pub requestChecks : List ℕ → List Check
 requestChecks request = refuse 4 (below (length request) 4) ∷ refuse 5 (differ (getD request 0 0) 0x40) ∷ []
 
 -- refusals 1, 2, 3, 7, then 4 and 5, and 8
-abbrev pub smpChecks : List ℕ → List ℕ → ℕ → ℕ → List ℕ → Bool → List Check
-smpChecks phys permissions phy carried request room =
-    arrivalChecks phys phy (permissionsSized 16 permissions) room true
-    ++ (requestChecks request ++ refuse 8 (below 255 (lengthField phys permissions phy carried request)) ∷ [])
+abbrev pub smpChecks : ℕ → List ℕ → List ℕ → ℕ → ℕ → List ℕ → Bool → List Check
+smpChecks w phys permissions phy carried request room =
+    arrivalChecks phys phy (permissionsSized w permissions) room true
+    ++ (requestChecks request ++ refuse 8 (below 255 (lengthField w phys permissions phy carried request)) ∷ [])
 
 -- what a reply leaves of the call: its values, and the buffers: phy table, permission table, response, phy set
 abbrev pub valuesOf : Reply → List ℕ
@@ -60,17 +60,17 @@ abbrev pub buffersOf : ℕ → Reply → List ℕ → List ℕ → List (List �
 buffersOf function p response set =
     p .phys ∷ p .permissions ∷ (responseOf function p ++ drop (4 + length (p .rest)) response) ∷ (p .set ++ drop 16 set) ∷ []
 
-abbrev pub smpOut : List ℕ → List ℕ → ℕ → ℕ → List ℕ → List ℕ → List ℕ → Out
-smpOut phys permissions phy carried request response set =
-    outcome (firstRefusal (smpChecks phys permissions phy carried request (roomFor response set)))
-    (valuesOf (smpReply phys permissions phy carried request))
+abbrev pub smpOut : ℕ → List ℕ → List ℕ → ℕ → ℕ → List ℕ → List ℕ → List ℕ → Out
+smpOut w phys permissions phy carried request response set =
+    outcome (firstRefusal (smpChecks w phys permissions phy carried request (roomFor response set)))
+    (valuesOf (smpReply w phys permissions phy carried request))
     (phys ∷ permissions ∷ response ∷ set ∷ [])
-    (buffersOf (functionOf request) (smpReply phys permissions phy carried request) response set)
+    (buffersOf (functionOf request) (smpReply w phys permissions phy carried request) response set)
 
 -- the orders that a request's call accepted: none unless it was answered 00h with C1h
-unfoldable pub acceptedOrders : List ℕ → List ℕ → ℕ → ℕ → List ℕ → Bool → List Order
-acceptedOrders phys permissions phy carried request room =
-    cond (eqb (firstRefusal (smpChecks phys permissions phy carried request room)) 0
-    && (eqb (functionOf request) 0xc1 && eqb ((smpReply phys permissions phy carried request) .result) 0x00))
-    (ordersOf request)
+unfoldable pub acceptedOrders : ℕ → List ℕ → List ℕ → ℕ → ℕ → List ℕ → Bool → List Order
+acceptedOrders w phys permissions phy carried request room =
+    cond (eqb (firstRefusal (smpChecks w phys permissions phy carried request room)) 0
+    && (eqb (functionOf request) 0xc1 && eqb ((smpReply w phys permissions phy carried request) .result) 0x00))
+    (ordersOf w request)
     []

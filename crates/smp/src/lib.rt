@@ -9,6 +9,7 @@ ghost use mathlib.Core.Path.{_≡_};
 ghost use mathlib.Core.List.{[], _∷_, _++_};
 ghost use Prim.Native.Nat.{_≤_, _<_};
 ghost use lib.ListN.{length, drop};
+ghost use Rattle.permit.specs.Permission.{Width, Table};
 ghost use Rattle.tables.specs.Refusals.{firstRefusal};
 ghost use Rattle.tables.specs.Outcome.{out};
 ghost use Rattle.tables.specs.Phys.{phyCount, emptySet};
@@ -22,18 +23,26 @@ pub enum Answered {
 }
 
 // The length field that the response would have: only a report has one.
-fn length_field(phys: &[u8], permissions: &[u8], phy: PhyNumber, carried: u8, request: &[u8]) -> u16
-    requires { ⌜ (phy .0 < phyCount (now phys)) × (length (now permissions) ≡ 2048) × (4 ≤ length (now request)) ⌝ }
-    ensures { λ r. ⌜ r ≡ lengthField (now (phys .entry)) (now (permissions .entry)) (phy .0) carried (now (request .entry)) ⌝ }
+fn length_field(
+    width: usize,
+    phys: &[u8],
+    permissions: &[u8],
+    phy: PhyNumber,
+    carried: u8,
+    request: &[u8],
+) -> u16
+    requires { ⌜ (phy .0 < phyCount (now phys)) × Table width (now permissions) × (4 ≤ length (now request)) ⌝ }
+    ensures { λ r. ⌜ r ≡ lengthField width (now (phys .entry)) (now (permissions .entry)) (phy .0) carried (now (request .entry)) ⌝ }
 {
     let function = request[1];
     match function {
-        0x51 => zone_report::report_dwords(phys, permissions, phy, carried, request),
+        0x51 => zone_report::report_dwords(width, phys, permissions, phy, carried, request),
         _ => 0,
     }
 }
 
 pub fn smp_refusal(
+    width: usize,
     phys: &[u8],
     permissions: &[u8],
     phy: PhyNumber,
@@ -41,9 +50,10 @@ pub fn smp_refusal(
     request: &[u8],
     room: bool,
 ) -> u8
-    ensures { λ r. ⌜ r ≡ firstRefusal (smpChecks (now (phys .entry)) (now (permissions .entry)) (phy .0) carried (now (request .entry)) room) ⌝ }
+    requires { ⌜ Width width ⌝ }
+    ensures { λ r. ⌜ r ≡ firstRefusal (smpChecks width (now (phys .entry)) (now (permissions .entry)) (phy .0) carried (now (request .entry)) room) ⌝ }
 {
-    let sizes = permit::permissions_sized(permissions);
+    let sizes = permit::permissions_sized(width, permissions);
     let no = tables::arrival_refusal(phys, phy, sizes, room, READY);
     if no != 0 {
         return no;
@@ -54,7 +64,7 @@ pub fn smp_refusal(
     if request[0] != 0x40 {
         return 5;
     }
-    if 255 < length_field(phys, permissions, phy, carried, request) {
+    if 255 < length_field(width, phys, permissions, phy, carried, request) {
         return 8;
     }
     0
@@ -75,6 +85,7 @@ fn unknown_function(function: u8, response: &mut [u8], set: &mut [u8]) -> Ruled
 
 // One of three rules.
 fn rule(
+    width: usize,
     phys: &mut [u8],
     permissions: &mut [u8],
     phy: PhyNumber,
@@ -83,19 +94,78 @@ fn rule(
     response: &mut [u8],
     set: &mut [u8],
 ) -> Ruled
-    requires { ⌜ Lent (now phys) (now permissions) (phy .0) (length (now request)) (length (now response)) (length (now set)) ⌝ }
-    ensures { λ r. ⌜ Leaves (functionOf (now (request .entry))) (smpReply (now (phys .entry)) (now (permissions .entry)) (phy .0) carried (now (request .entry))) (now (response .entry)) (now (set .entry)) (r .result) (r .written) (now (phys .exit)) (now (permissions .exit)) (now (response .exit)) (now (set .exit)) ⌝ }
+    requires { ⌜ Lent width (now phys) (now permissions) (phy .0) (length (now request)) (length (now response)) (length (now set)) ⌝ }
+    ensures { λ r. ⌜ Leaves (functionOf (now (request .entry))) (smpReply width (now (phys .entry)) (now (permissions .entry)) (phy .0) carried (now (request .entry))) (now (response .entry)) (now (set .entry)) (r .result) (r .written) (now (phys .exit)) (now (permissions .exit)) (now (response .exit)) (now (set .exit)) ⌝ }
 {
     let function = request[1];
     match function {
-        0x93 => configure_phy_zone(phys, permissions, phy, carried, request, response, set),
-        0xc1 => configure_zone_permission(phys, permissions, phy, carried, request, response, set),
-        0x51 => report_zone_permission(phys, permissions, phy, carried, request, response, set),
+        0x93 => configure_phy_zone(
+            width,
+            phys,
+            permissions,
+            phy,
+            carried,
+            request,
+            response,
+            set,
+        ),
+        0xc1 => configure_zone_permission(
+            width,
+            phys,
+            permissions,
+            phy,
+            carried,
+            request,
+            response,
+            set,
+        ),
+        0x51 => report_zone_permission(
+            width,
+            phys,
+            permissions,
+            phy,
+            carried,
+            request,
+            response,
+            set,
+        ),
         _ => unknown_function(function, response, set),
     }
 }
 
 // An SMP request arrives; `carried` is the byte that the caller took from the connection's OPEN.
+pub fn smp_at(
+    width: usize,
+    phys: &mut [u8],
+    permissions: &mut [u8],
+    phy: PhyNumber,
+    carried: u8,
+    request: &[u8],
+    response: &mut [u8],
+    set: &mut [u8],
+) -> Answered
+    requires { ⌜ Width width ⌝ }
+    ensures { λ r. ⌜ out (answeredAs r) (now (phys .exit) ∷ now (permissions .exit) ∷ now (response .exit) ∷ now (set .exit) ∷ []) ≡ smpOut width (now (phys .entry)) (now (permissions .entry)) (phy .0) carried (now (request .entry)) (now (response .entry)) (now (set .entry)) ⌝ }
+{
+    let room = (1020 <= response.len()) & (16 <= set.len());
+    let no = smp_refusal(width, phys, permissions, phy, carried, request, room);
+    if no != 0 {
+        return Answered::Refused(no);
+    }
+    let ruled = rule(
+        width,
+        phys,
+        permissions,
+        phy,
+        carried,
+        request,
+        response,
+        set,
+    );
+    Answered::Replied(ruled.result, ruled.written, wire::phys_in(set))
+}
+
+// Document 01's shelf.
 pub fn smp(
     phys: &mut [u8],
     permissions: &mut [u8],
@@ -105,13 +175,7 @@ pub fn smp(
     response: &mut [u8],
     set: &mut [u8],
 ) -> Answered
-    ensures { λ r. ⌜ out (answeredAs r) (now (phys .exit) ∷ now (permissions .exit) ∷ now (response .exit) ∷ now (set .exit) ∷ []) ≡ smpOut (now (phys .entry)) (now (permissions .entry)) (phy .0) carried (now (request .entry)) (now (response .entry)) (now (set .entry)) ⌝ }
+    ensures { λ r. ⌜ out (answeredAs r) (now (phys .exit) ∷ now (permissions .exit) ∷ now (response .exit) ∷ now (set .exit) ∷ []) ≡ smpOut 16 (now (phys .entry)) (now (permissions .entry)) (phy .0) carried (now (request .entry)) (now (response .entry)) (now (set .entry)) ⌝ }
 {
-    let room = (1020 <= response.len()) & (16 <= set.len());
-    let no = smp_refusal(phys, permissions, phy, carried, request, room);
-    if no != 0 {
-        return Answered::Refused(no);
-    }
-    let ruled = rule(phys, permissions, phy, carried, request, response, set);
-    Answered::Replied(ruled.result, ruled.written, wire::phys_in(set))
+    smp_at(16, phys, permissions, phy, carried, request, response, set)
 }

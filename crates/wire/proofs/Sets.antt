@@ -26,7 +26,7 @@ bits-lt f i zero = omega arith
 bits-lt f i (suc n) = rw (pow-suc 2 n) (omega (arith, num-le (f i), bits-lt f (suc i) n))
 
 -- bit k of what f gives from i on is f (i + k)
-bit-bits : (f : ℕ → Bool) (i n k : ℕ) → k < n → bit (bitsOf f i n) k ≡ num (f (i + k))
+pub bit-bits : (f : ℕ → Bool) (i n k : ℕ) → k < n → bit (bitsOf f i n) k ≡ num (f (i + k))
 unfolding bit bitsOf
 bit-bits f i zero k h = absurd (omega arith)
 bit-bits f i (suc n) zero h = rw (add-zero i) (omega (arith, num-le (f i)))

@@ -6,8 +6,9 @@ use Prim.Native.Nat.{ℕ, _+_, _*_, _/_, _%_, _≤_}
 use lib.Dec.{eqb, ltb}
 use lib.ListN.{length, getD, drop}
 use Rattle.wire.specs.Groups.{groupOf}
-use Rattle.permit.specs.Orders.{Order, order, apply, batchOrders}
-use Rattle.tables.specs.Refusals.{Check, refuse, below, differ, off, on, firstRefusal}
+use Rattle.permit.specs.Permission.{groups}
+use Rattle.permit.specs.Orders.{Order, order, apply, batchOrders, rowsEnd}
+use Rattle.tables.specs.Refusals.{Check, refuse, below, atMost, differ, off, on, firstRefusal}
 use Rattle.tables.specs.Phys.{readySet, emptySet}
 use Rattle.requests.specs.Requests.{right, Reply, replied}
 
@@ -32,62 +33,66 @@ startRow request = getD request 10 0
 abbrev pub rowCount : List ℕ → ℕ
 rowCount request = getD request 11 0
 
--- "Single: M not 12: 03h; source .. or target .. below 2: 02h"
-abbrev pub singleChecks : List ℕ → List Check
-singleChecks request =
+-- "Single: M not 12: 03h; source .. or target .. below 2: 02h". "here a single, batch row or descriptor naming a group above 7 answers 02h,
+-- after all present results": a group that the table does not hold
+abbrev pub singleChecks : ℕ → List ℕ → List Check
+singleChecks w request =
     refuse 0x03 (differ (length request) 12)
     ∷ refuse 0x02 (below (source request) 2)
     ∷ refuse 0x02 (below (target request) 2)
+    ∷ refuse 0x02 (atMost (groups w) (source request))
+    ∷ refuse 0x02 (atMost (groups w) (target request))
     ∷ []
 
 -- "Batch: .. M not 12 + 16k: 03h; start (byte 10) + k above 128: 11h; start below 2 with k at least 1: 02h."
-abbrev pub batchChecks : List ℕ → List Check
-batchChecks request =
+abbrev pub batchChecks : ℕ → List ℕ → List Check
+batchChecks w request =
     refuse 0x03 (differ (length request) (12 + 16 * rowCount request))
     ∷ refuse 0x11 (below 128 (startRow request + rowCount request))
     ∷ refuse 0x02 (on (ltb (startRow request) 2 && ltb 0 (rowCount request)))
+    ∷ refuse 0x02 (below (groups w) (rowsEnd (startRow request) (rowCount request)))
     ∷ []
 
 -- "8 single, 9 batch, others 02h"
-unfoldable pub operationChecks : List ℕ → List Check
-operationChecks request =
-    cond (eqb (operation request) 8) (singleChecks request)
-    (cond (eqb (operation request) 9) (batchChecks request)
+unfoldable pub operationChecks : ℕ → List ℕ → List Check
+operationChecks w request =
+    cond (eqb (operation request) 8) (singleChecks w request)
+    (cond (eqb (operation request) 9) (batchChecks w request)
     (refuse 0x02 (on true) ∷ []))
 
 -- "No right: 01h. M not 4 + 4L or under 12: 03h."
-abbrev pub permissionChecks : List ℕ → List ℕ → ℕ → ℕ → List ℕ → List Check
-permissionChecks phys permissions phy carried request =
-    refuse 0x01 (off (right phys permissions phy carried))
+abbrev pub permissionChecks : ℕ → List ℕ → List ℕ → ℕ → ℕ → List ℕ → List Check
+permissionChecks w phys permissions phy carried request =
+    refuse 0x01 (off (right w phys permissions phy carried))
     ∷ refuse 0x03 (differ (length request) (4 + 4 * getD request 3 0))
     ∷ refuse 0x03 (below (length request) 12)
-    ∷ operationChecks request
+    ∷ operationChecks w request
 
 -- the orders of an accepted request: one, or a batch's rows in order
-unfoldable pub ordersOf : List ℕ → List Order
-ordersOf request =
+unfoldable pub ordersOf : ℕ → List ℕ → List Order
+ordersOf w request =
     cond (eqb (operation request) 8)
     (order (source request) (target request) (newValue request) ∷ [])
-    (batchOrders 16 (drop 12 request) (startRow request) 0 (rowCount request))
+    (batchOrders w (drop 12 request) (startRow request) 0 (rowCount request))
 
 -- what an inner function may build on: the checks of the request's operation let it pass
-pub record Accepted (request : List ℕ) : Type 0 where
+pub record Accepted (w : ℕ) (request : List ℕ) : Type 0 where
   pub long : 12 ≤ length request
-  pub passed : firstRefusal (operationChecks request) ≡ 0
+  pub passed : firstRefusal (operationChecks w request) ≡ 0
 
 -- "UPDATE COMPLETE (byte 9 bit 0): the set is all ready phys, else empty."
 abbrev pub permissionSet : List ℕ → List ℕ → List ℕ
 permissionSet phys request = cond (eqb (getD request 9 0 % 2) 1) (readySet phys) emptySet
 
 -- "Response four bytes."
-unfoldable pub permissionReply : List ℕ → List ℕ → ℕ → ℕ → List ℕ → Reply
-permissionReply phys permissions phy carried request =
-    replied (firstRefusal (permissionChecks phys permissions phy carried request))
+unfoldable pub permissionReply : ℕ → List ℕ → List ℕ → ℕ → ℕ → List ℕ → Reply
+permissionReply w phys permissions phy carried request =
+    replied (firstRefusal (permissionChecks w phys permissions phy carried request))
     (record {
       result = 0x00;
       rest = [];
       set = permissionSet phys request;
       phys = phys;
-      permissions = apply 16 (ordersOf request) permissions;
+      permissions = apply w (ordersOf w request) permissions;
     })
     phys permissions

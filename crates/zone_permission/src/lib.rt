@@ -8,16 +8,16 @@ ghost use mathlib.Core.List.{_++_};
 ghost use Prim.Native.Nat.{_%_, _≤_, _<_};
 ghost use lib.Dec.{ltb};
 ghost use lib.ListN.{length, drop};
-ghost use Rattle.permit.specs.Permission.{setBoth};
-ghost use Rattle.permit.specs.Orders.{apply};
+ghost use Rattle.permit.specs.Permission.{groups, setBoth, Width, Table};
+ghost use Rattle.permit.specs.Orders.{apply, rowsEnd};
 ghost use Rattle.tables.specs.Refusals.{firstRefusal};
 ghost use Rattle.tables.specs.Phys.{phyCount};
 ghost use Rattle.requests.specs.Requests.{Lent, Leaves};
 ghost use Rattle.zone_permission.specs.ZonePermission.{source, target, newValue, Accepted, singleChecks, batchChecks, operationChecks, permissionChecks, ordersOf, permissionSet, permissionReply};
 
-fn single_result(request: &[u8]) -> u8
-    requires { ⌜ 12 ≤ length (now request) ⌝ }
-    ensures { λ r. ⌜ r ≡ firstRefusal (singleChecks (now (request .entry))) ⌝ }
+fn single_result(width: usize, request: &[u8]) -> u8
+    requires { ⌜ (12 ≤ length (now request)) × Width width ⌝ }
+    ensures { λ r. ⌜ r ≡ firstRefusal (singleChecks width (now (request .entry))) ⌝ }
 {
     if request.len() != 12 {
         return 0x03;
@@ -26,6 +26,12 @@ fn single_result(request: &[u8]) -> u8
         return 0x02;
     }
     if request[7] % 128 < 2 {
+        return 0x02;
+    }
+    if 8 * width <= (request[6] % 128) as usize {
+        return 0x02;
+    }
+    if 8 * width <= (request[7] % 128) as usize {
         return 0x02;
     }
     0x00
@@ -41,9 +47,19 @@ fn starts_low(start: u8, count: u8) -> bool
     false
 }
 
-fn batch_result(request: &[u8]) -> u8
-    requires { ⌜ 12 ≤ length (now request) ⌝ }
-    ensures { λ r. ⌜ r ≡ firstRefusal (batchChecks (now (request .entry))) ⌝ }
+// One past the last group that a batch has a row for, and 0 where it has none.
+fn rows_end(start: u8, count: u8) -> usize
+    ensures { λ r. ⌜ r ≡ rowsEnd start count ⌝ }
+{
+    if count == 0 {
+        return 0;
+    }
+    start as usize + count as usize
+}
+
+fn batch_result(width: usize, request: &[u8]) -> u8
+    requires { ⌜ (12 ≤ length (now request)) × Width width ⌝ }
+    ensures { λ r. ⌜ r ≡ firstRefusal (batchChecks width (now (request .entry))) ⌝ }
 {
     let start = request[10];
     let count = request[11];
@@ -56,33 +72,37 @@ fn batch_result(request: &[u8]) -> u8
     if starts_low(start, count) {
         return 0x02;
     }
+    if 8 * width < rows_end(start, count) {
+        return 0x02;
+    }
     0x00
 }
 
 // The operation nibble picks: single, batch, or no such operation.
-fn operation_result(request: &[u8]) -> u8
-    requires { ⌜ 12 ≤ length (now request) ⌝ }
-    ensures { λ r. ⌜ r ≡ firstRefusal (operationChecks (now (request .entry))) ⌝ }
+fn operation_result(width: usize, request: &[u8]) -> u8
+    requires { ⌜ (12 ≤ length (now request)) × Width width ⌝ }
+    ensures { λ r. ⌜ r ≡ firstRefusal (operationChecks width (now (request .entry))) ⌝ }
 {
     let operation = request[9] / 16;
     match operation {
-        8 => single_result(request),
-        9 => batch_result(request),
+        8 => single_result(width, request),
+        9 => batch_result(width, request),
         0..=7 | 10..=255 => 0x02,
     }
 }
 
 fn permission_result(
+    width: usize,
     phys: &[u8],
     permissions: &[u8],
     phy: PhyNumber,
     carried: u8,
     request: &[u8],
 ) -> u8
-    requires { ⌜ (phy .0 < phyCount (now phys)) × (length (now permissions) ≡ 2048) × (4 ≤ length (now request)) ⌝ }
-    ensures { λ r. ⌜ r ≡ firstRefusal (permissionChecks (now (phys .entry)) (now (permissions .entry)) (phy .0) carried (now (request .entry))) ⌝ }
+    requires { ⌜ (phy .0 < phyCount (now phys)) × Table width (now permissions) × (4 ≤ length (now request)) ⌝ }
+    ensures { λ r. ⌜ r ≡ firstRefusal (permissionChecks width (now (phys .entry)) (now (permissions .entry)) (phy .0) carried (now (request .entry))) ⌝ }
 {
-    if !requests::has_right(phys, permissions, phy, carried) {
+    if !requests::has_right(width, phys, permissions, phy, carried) {
         return 0x01;
     }
     if request.len() != 4 + 4 * (request[3] as usize) {
@@ -91,29 +111,35 @@ fn permission_result(
     if request.len() < 12 {
         return 0x03;
     }
-    operation_result(request)
+    operation_result(width, request)
 }
 
 // NEW VALUE, written to both places.
-fn obey_single(permissions: &mut [u8], request: &[u8])
-    requires { ⌜ (length (now permissions) ≡ 2048) × (12 ≤ length (now request)) ⌝ }
-    ensures { λ _. ⌜ now (permissions .exit) ≡ setBoth 16 (now (permissions .entry)) (source (now (request .entry))) (target (now (request .entry))) (newValue (now (request .entry))) ⌝ }
+fn obey_single(width: usize, permissions: &mut [u8], request: &[u8])
+    requires { ⌜ Table width (now permissions) × (12 ≤ length (now request)) × (source (now request) < groups width) × (target (now request) < groups width) ⌝ }
+    ensures { λ _. ⌜ now (permissions .exit) ≡ setBoth width (now (permissions .entry)) (source (now (request .entry))) (target (now (request .entry))) (newValue (now (request .entry))) ⌝ }
 {
     let a = ZoneGroup(request[6] % 128);
     let b = ZoneGroup(request[7] % 128);
-    permit::write_both(permissions, a, b, request[7] / 128 == 1);
+    permit::write_both(width, permissions, a, b, request[7] / 128 == 1);
 }
 
 // What an accepted request orders.
-fn obey(permissions: &mut [u8], request: &[u8])
-    requires { ⌜ (length (now permissions) ≡ 2048) × Accepted (now request) ⌝ }
-    ensures { λ _. ⌜ now (permissions .exit) ≡ apply 16 (ordersOf (now (request .entry))) (now (permissions .entry)) ⌝ }
+fn obey(width: usize, permissions: &mut [u8], request: &[u8])
+    requires { ⌜ Table width (now permissions) × Accepted width (now request) ⌝ }
+    ensures { λ _. ⌜ now (permissions .exit) ≡ apply width (ordersOf width (now (request .entry))) (now (permissions .entry)) ⌝ }
 {
     let operation = request[9] / 16;
     if operation == 8 {
-        obey_single(permissions, request);
+        obey_single(width, permissions, request);
     } else {
-        permit::batch(permissions, request, ZoneGroup(request[10]), request[11]);
+        permit::batch(
+            width,
+            permissions,
+            request,
+            ZoneGroup(request[10]),
+            request[11],
+        );
     }
 }
 
@@ -131,6 +157,7 @@ fn write_permission_set(phys: &[u8], request: &[u8], set: &mut [u8])
 
 // Switches permission between groups on or off: one pair, or whole rows.
 pub fn configure_zone_permission(
+    width: usize,
     phys: &[u8],
     permissions: &mut [u8],
     phy: PhyNumber,
@@ -139,16 +166,16 @@ pub fn configure_zone_permission(
     response: &mut [u8],
     set: &mut [u8],
 ) -> Ruled
-    requires { ⌜ Lent (now phys) (now permissions) (phy .0) (length (now request)) (length (now response)) (length (now set)) ⌝ }
-    ensures { λ r. ⌜ Leaves 0xc1 (permissionReply (now (phys .entry)) (now (permissions .entry)) (phy .0) carried (now (request .entry))) (now (response .entry)) (now (set .entry)) (r .result) (r .written) (now (phys .entry)) (now (permissions .exit)) (now (response .exit)) (now (set .exit)) ⌝ }
+    requires { ⌜ Lent width (now phys) (now permissions) (phy .0) (length (now request)) (length (now response)) (length (now set)) ⌝ }
+    ensures { λ r. ⌜ Leaves 0xc1 (permissionReply width (now (phys .entry)) (now (permissions .entry)) (phy .0) carried (now (request .entry))) (now (response .entry)) (now (set .entry)) (r .result) (r .written) (now (phys .entry)) (now (permissions .exit)) (now (response .exit)) (now (set .exit)) ⌝ }
 {
-    let result = permission_result(phys, permissions, phy, carried, request);
+    let result = permission_result(width, phys, permissions, phy, carried, request);
     requests::write_head(response, 0xc1, result, 0);
     if result != 0 {
         tables::write_empty_set(set);
         return Ruled { result, written: 4 };
     }
-    obey(permissions, request);
+    obey(width, permissions, request);
     write_permission_set(phys, request, set);
     Ruled { result, written: 4 }
 }

@@ -5,6 +5,9 @@ use borrow.Author.Needs.{needs}
 use Rattle.broadcasts.proofs.announce.Statement.{statement}
 use Rattle.broadcasts.proofs.announce.Tie as tie
 
+group-of-requires : tie.Need-group-of-requires
+group-of-requires c κs = search needs
+
 write-told-set-requires : tie.Need-write-told-set-requires
 write-told-set-requires c κs = search needs
 
@@ -27,6 +30,7 @@ pub announce-spec : {M : Type 1} → statement M
 announce-spec =
     tie.close
     (tie.spec
+    group-of-requires
     write-told-set-requires
     write-frame-requires
     phys-in-requires

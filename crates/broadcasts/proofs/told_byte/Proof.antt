@@ -9,10 +9,10 @@ use Rattle.broadcasts.proofs.told_byte.Statement.{statement}
 use Rattle.broadcasts.proofs.told_byte.Tie as tie
 
 abbrev Inv-loop : tie.InvT-loop
-Inv-loop phys permissions phy own source k slots₀ next₀ end byte₀ bit₀ i₀ slots next byte bit i = Rising phys permissions (phy .0) (source .0) k slots next byte bit i
+Inv-loop width phys permissions phy own source k slots₀ next₀ end byte₀ bit₀ i₀ slots next byte bit i = Rising width phys permissions (phy .0) (source .0) k slots next byte bit i
 
 abbrev μ-loop : tie.MeasureT-loop
-μ-loop phys permissions phy own source k slots₀ next₀ end byte₀ bit₀ i₀ slots next byte bit i = end - i
+μ-loop width phys permissions phy own source k slots₀ next₀ end byte₀ bit₀ i₀ slots next byte bit i = end - i
 
 byte-end-requires : tie.Need-byte-end-requires Inv-loop μ-loop
 byte-end-requires c κs = omega arith

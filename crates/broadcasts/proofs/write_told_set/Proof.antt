@@ -8,10 +8,10 @@ use Rattle.broadcasts.proofs.write_told_set.Statement.{statement}
 use Rattle.broadcasts.proofs.write_told_set.Tie as tie
 
 abbrev Inv-loop : tie.InvT-loop
-Inv-loop phys permissions phy source set₀ own count slots₀ next₀ k₀ set slots next k = Telling phys permissions (phy .0) (source .0) set₀ set slots next k
+Inv-loop width phys permissions phy source set₀ own count slots₀ next₀ k₀ set slots next k = Telling width phys permissions (phy .0) (source .0) set₀ set slots next k
 
 abbrev μ-loop : tie.MeasureT-loop
-μ-loop phys permissions phy source set₀ own count slots₀ next₀ k₀ set slots next k = count - k
+μ-loop width phys permissions phy source set₀ own count slots₀ next₀ k₀ set slots next k = count - k
 
 phy-address-requires : tie.Need-phy-address-requires Inv-loop μ-loop
 phy-address-requires c κs = search needs
@@ -26,7 +26,7 @@ mul-loop : tie.Need-mul-loop Inv-loop μ-loop
 mul-loop c = omega arith
 
 told-byte-requires : tie.Need-told-byte-requires Inv-loop μ-loop
-told-byte-requires c κs = (search needs, search needs, search needs, search needs, c .before .before .before .loop .inv .kept (omega arith))
+told-byte-requires c κs = (search needs, search needs, search needs, c .before .before .before .loop .inv .kept (omega arith))
 
 slice-write-set : tie.Need-slice-write-set Inv-loop μ-loop
 slice-write-set c = search tell-room

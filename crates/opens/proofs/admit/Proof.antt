@@ -2,7 +2,7 @@
 -- Assumes nothing.
 use mathlib.Core.Path.{refl}
 use Rattle.opens.specs.Open.{sent}
-use Rattle.opens.proofs.OpenSteps.{source-small, admit-bad, admit-violation, admit-forward, sent-forward}
+use Rattle.opens.proofs.OpenSteps.{admit-bad, admit-violation, admit-forward, sent-forward}
 use borrow.Author.Needs.{needs}
 use Rattle.opens.proofs.admit.Statement.{statement}
 use Rattle.opens.proofs.admit.Tie as tie
@@ -18,7 +18,7 @@ open-source-requires : tie.Need-open-source-requires
 open-source-requires c κs = search needs
 
 permitted-requires : tie.Need-permitted-requires
-permitted-requires c κs = search source-small
+permitted-requires c κs = search needs
 
 returns-2 : tie.Need-returns-2
 unfolding sent

@@ -7,25 +7,26 @@ use native.Mathlib.Omega.{arith}
 use borrow.Author.Needs.{needs}
 use lib.ListN.{length, take, drop, length-take, length-drop}
 use lib.Seq.{take-all}
-use Rattle.permit.specs.Permission.{P}
+use Rattle.permit.specs.Permission.{groups, P}
 use Rattle.permit.specs.Orders.{apply, rowOrders}
 use Rattle.permit.proofs.HistoryLaws.{BatchLeft, batch-start, batch-again, batch-done}
+use Rattle.permit.proofs.ReachLaws.{rows-end}
 use Rattle.permit.proofs.batch.Statement.{statement}
 use Rattle.permit.proofs.batch.Tie as tie
 
 -- the code's part of a slice from 12 to its end is what is left after 12
-again : (request t₀ t t′ : List ℕ) (start k i : ℕ) → i < k
-    → t′ ≡ apply 16 (rowOrders (P 16 (take (length request - 12) (drop 12 request)) i) (start + i) 2 126) t
-    → BatchLeft 16 (drop 12 request) start k t₀ t i → BatchLeft 16 (drop 12 request) start k t₀ t′ (i + 1)
-again request t₀ t t′ start k i h e l =
-    batch-again 16 (drop 12 request) start k t₀ t t′ i h
+again : (w : ℕ) (request t₀ t t′ : List ℕ) (start k i : ℕ) → i < k
+    → t′ ≡ apply w (rowOrders (P 16 (take (length request - 12) (drop 12 request)) i) (start + i) 2 (groups w - 2)) t
+    → BatchLeft w (drop 12 request) start k t₀ t i → BatchLeft w (drop 12 request) start k t₀ t′ (i + 1)
+again w request t₀ t t′ start k i h e l =
+    batch-again w (drop 12 request) start k t₀ t t′ i h
     (rw (take-all (length request - 12) (drop 12 request) (omega (arith, length-drop 12 request))) at e) l
 
 abbrev Inv-loop : tie.InvT-loop
-Inv-loop permissions₀ request start count rows i₀ permissions i = BatchLeft 16 (drop 12 request) (start .0) count permissions₀ permissions i
+Inv-loop width permissions₀ request start count rows i₀ permissions i = BatchLeft width (drop 12 request) (start .0) count permissions₀ permissions i
 
 abbrev μ-loop : tie.MeasureT-loop
-μ-loop permissions₀ request start count rows i₀ permissions i = count - i
+μ-loop width permissions₀ request start count rows i₀ permissions i = count - i
 
 sub-rows : tie.Need-sub-rows Inv-loop μ-loop
 sub-rows c = search needs
@@ -37,7 +38,7 @@ part-rows-end : tie.Need-part-rows-end Inv-loop μ-loop
 part-rows-end c = search needs
 
 loop-holds : tie.Need-loop-holds Inv-loop μ-loop
-loop-holds c = search (batch-start 16)
+loop-holds c = search batch-start
 
 add-r : tie.Need-add-r Inv-loop μ-loop
 add-r c = search needs
@@ -46,7 +47,8 @@ cast-batch-row : tie.Need-cast-batch-row Inv-loop μ-loop
 cast-batch-row c = search needs
 
 batch-row-requires : tie.Need-batch-row-requires Inv-loop μ-loop
-batch-row-requires c κs = simp (length-take, length-drop) (omega arith)
+batch-row-requires c κs =
+    (search needs, simp (length-take, length-drop) (omega arith), search rows-end)
 
 add-i : tie.Need-add-i Inv-loop μ-loop
 add-i c = omega arith
@@ -55,13 +57,16 @@ loop-less : tie.Need-loop-less Inv-loop μ-loop
 loop-less c = omega arith
 
 loop-again : tie.Need-loop-again Inv-loop μ-loop
-loop-again c = search again
+loop-again c =
+    let done = c .before .before in
+    let turn = done .before .before .before .before in
+    again _ (turn .before .before .before .before .args .request .now) _ _ _ _ _ _ (omega arith) (done .batch-row .ensures) (turn .loop .inv)
 
 same-length : tie.Need-same-length Inv-loop μ-loop
 same-length c = search needs
 
 returns : tie.Need-returns Inv-loop μ-loop
-returns c = search (batch-done 16)
+returns c = search batch-done
 
 pub batch-spec : {M : Type 1} → statement M
 batch-spec =

@@ -20,7 +20,7 @@ returns : tie.Need-returns
 returns c =
     let entered = c .before .before .before .before .before .before .before .before .before in
     let old : Bytes (entered .before .args .permissions .now) = λ k. omega (arith, entered .slice-known .given k) in
-    let new : Bytes (c .before .before .put-column .last .0) = λ k. omega (arith, c .slice-known3 .given k) in search (row-written 16)
+    let new : Bytes (c .before .before .put-column .last .1 .0) = λ k. omega (arith, c .slice-known3 .given k) in search row-written
 
 pub batch-row-spec : {M : Type 1} → statement M
 batch-row-spec = tie.close (tie.spec put-row-requires put-column-requires same-length returns)

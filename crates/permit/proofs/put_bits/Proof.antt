@@ -9,29 +9,23 @@ use Rattle.permit.proofs.put_bits.Statement.{statement}
 use Rattle.permit.proofs.put_bits.Tie as tie
 
 abbrev Inv-loop : tie.InvT-loop
-Inv-loop permissions₀ bits first low group m byte k₀ permissions k =
-    ColumnTo 16 (byteHas bits) group (first + low) permissions₀ permissions (first + k) × (k ≤ 8)
+Inv-loop width permissions₀ bits first low group m k₀ permissions k =
+    ColumnTo width (byteHas bits) group (first + low) permissions₀ permissions (first + k) × (k ≤ 8)
 
 abbrev μ-loop : tie.MeasureT-loop
-μ-loop permissions₀ bits first low group m byte k₀ permissions k = 8 - k
-
-sub-byte : tie.Need-sub-byte Inv-loop μ-loop
-sub-byte c = omega arith
+μ-loop width permissions₀ bits first low group m k₀ permissions k = 8 - k
 
 loop-holds : tie.Need-loop-holds Inv-loop μ-loop
-loop-holds c = search (bits-start 16)
+loop-holds c = search bits-start
 
 bit-of-requires : tie.Need-bit-of-requires Inv-loop μ-loop
 bit-of-requires c κs = search needs
 
-add-at : tie.Need-add-at Inv-loop μ-loop
-add-at c = omega arith
+add-byte-at : tie.Need-add-byte-at Inv-loop μ-loop
+add-byte-at c = omega arith
 
-mul-at : tie.Need-mul-at Inv-loop μ-loop
-mul-at c = omega arith
-
-add-at-2 : tie.Need-add-at-2 Inv-loop μ-loop
-add-at-2 c = omega arith
+byte-at-requires : tie.Need-byte-at-requires Inv-loop μ-loop
+byte-at-requires c κs = search needs
 
 slice-read-with-mask : tie.Need-slice-read-with-mask Inv-loop μ-loop
 slice-read-with-mask c = omega arith
@@ -49,13 +43,13 @@ loop-less : tie.Need-loop-less Inv-loop μ-loop
 loop-less c = omega arith
 
 loop-again : tie.Need-loop-again Inv-loop μ-loop
-loop-again c = (search (bits-again 16), omega arith)
+loop-again c = (search bits-again, omega arith)
 
 same-length : tie.Need-same-length Inv-loop μ-loop
 same-length c = search needs
 
 returns : tie.Need-returns Inv-loop μ-loop
-returns c = search (bits-done 16)
+returns c = search bits-done
 
 pub put-bits-spec : {M : Type 1} → statement M
 put-bits-spec =
@@ -63,12 +57,10 @@ put-bits-spec =
     (tie.spec
     Inv-loop
     μ-loop
-    sub-byte
     loop-holds
     bit-of-requires
-    add-at
-    mul-at
-    add-at-2
+    add-byte-at
+    byte-at-requires
     slice-read-with-mask
     with-mask-requires
     slice-write-permissions

@@ -10,11 +10,11 @@ use Rattle.permit.proofs.put_column.Statement.{statement}
 use Rattle.permit.proofs.put_column.Tie as tie
 
 abbrev Inv-loop : tie.InvT-loop
-Inv-loop permissions₀ rows i group m from q₀ permissions q =
-    ColumnTo 16 (P 16 rows i) group 8 permissions₀ permissions (q * 8)
+Inv-loop width permissions₀ rows i group m from q₀ permissions q =
+    ColumnTo width (P 16 rows i) group 8 permissions₀ permissions (q * 8)
 
 abbrev μ-loop : tie.MeasureT-loop
-μ-loop permissions₀ rows i group m from q₀ permissions q = 16 - q
+μ-loop width permissions₀ rows i group m from q₀ permissions q = width - q
 
 cast-group : tie.Need-cast-group Inv-loop μ-loop
 cast-group c = search needs
@@ -35,7 +35,7 @@ put-bits-requires : tie.Need-put-bits-requires Inv-loop μ-loop
 put-bits-requires c κs = search needs
 
 loop-holds : tie.Need-loop-holds Inv-loop μ-loop
-loop-holds c = search (bytes-start 16)
+loop-holds c = search bytes-start
 
 sub-put-bits : tie.Need-sub-put-bits Inv-loop μ-loop
 sub-put-bits c = omega arith
@@ -61,13 +61,13 @@ loop-less c = omega arith
 loop-again : tie.Need-loop-again Inv-loop μ-loop
 loop-again c =
     let put = c .before .before in
-    bytes-again 16 _ _ _ _ _ _ _ (put .before .before .before .before .loop .inv) (put .put-bits2 .ensures)
+    bytes-again _ _ _ _ _ _ _ _ (put .before .before .before .before .loop .inv) (put .put-bits2 .ensures)
 
 same-length : tie.Need-same-length Inv-loop μ-loop
 same-length c = search needs
 
 returns : tie.Need-returns Inv-loop μ-loop
-returns c = search (bytes-done 16)
+returns c = search bytes-done
 
 pub put-column-spec : {M : Type 1} → statement M
 put-column-spec =

@@ -1,20 +1,29 @@
 -- `permit::put_row` meets its contract.
 -- Assumes nothing.
-use Prim.Native.Nat.{_*_}
+use Prim.Native.Nat.{_+_, _-_, _*_}
 use native.Mathlib.Omega.{arith}
 use borrow.Author.Needs.{needs}
 use Rattle.permit.proofs.RowLaws.{row-put}
 use Rattle.permit.proofs.put_row.Statement.{statement}
 use Rattle.permit.proofs.put_row.Tie as tie
 
-cast-to : tie.Need-cast-to
-cast-to c = search needs
+cast-row-at : tie.Need-cast-row-at
+cast-row-at c = search needs
 
-mul-to : tie.Need-mul-to
-mul-to c = search needs
+row-at-requires : tie.Need-row-at-requires
+row-at-requires c κs = search needs
 
 mul-from : tie.Need-mul-from
 mul-from c = search needs
+
+sub-from : tie.Need-sub-from
+sub-from c = search needs
+
+add-from : tie.Need-add-from
+add-from c = search needs
+
+sub-last : tie.Need-sub-last
+sub-last c = search needs
 
 copy-requires : tie.Need-copy-requires
 copy-requires c κs = search needs
@@ -46,17 +55,21 @@ same-length c = search needs
 returns : tie.Need-returns
 returns c =
     let at-copy = c .before .before .before .before .before in
-    let args = at-copy .before .before .before .before .before .args in
-    row-put 16 (args .permissions .now) (args .rows .now) (args .i) (args .r .0) (args .i * 16) (omega arith) (omega arith) (omega arith) (omega arith) (omega arith) _ _
-    (at-copy .copy .ensures) (c .keep-low .ensures)
+    let args = at-copy .before .before .before .before .before .before .args in
+    row-put (args .width) (args .permissions .now) (args .rows .now) (args .i) (args .r .0) (args .i * 16 + (16 - args .width))
+    (omega arith) (omega arith) (omega arith) (omega arith) (omega arith) _ _ _
+    (at-copy .before .before .row-at .ensures .0) (at-copy .copy .ensures) (c .keep-low .ensures)
 
 pub put-row-spec : {M : Type 1} → statement M
 put-row-spec =
     tie.close
     (tie.spec
-    cast-to
-    mul-to
+    cast-row-at
+    row-at-requires
     mul-from
+    sub-from
+    add-from
+    sub-last
     copy-requires
     add-keep-low
     shared-slice-read-keep-low

@@ -1,22 +1,25 @@
 -- `permit::repeat_row` meets its contract: the rows below `at` are row 0.
 -- Assumes nothing.
 use Prim.Native.Nat.{_-_}
+use lib.ListN.{length}
 use native.Mathlib.Omega.{arith}
 use borrow.Author.Needs.{needs}
+use Rattle.permit.specs.Permission.{tableSize}
 use Rattle.permit.specs.Start.{Between, rowAgain}
+use Rattle.permit.proofs.Laws.{two-rows}
 use Rattle.permit.proofs.StartLaws.{between-start, repeat-again, repeat-done}
 use Rattle.permit.proofs.repeat_row.Statement.{statement}
 use Rattle.permit.proofs.repeat_row.Tie as tie
 
 abbrev Inv-loop : tie.InvT-loop
-Inv-loop permissions₀ at₀ permissions at =
-    Between (rowAgain 16 permissions₀) 16 permissions₀ permissions at
+Inv-loop width permissions₀ size at₀ permissions at =
+    Between (rowAgain width permissions₀) width permissions₀ permissions at
 
 abbrev μ-loop : tie.MeasureT-loop
-μ-loop permissions₀ at₀ permissions at = 2048 - at
+μ-loop width permissions₀ size at₀ permissions at = size - at
 
 loop-holds : tie.Need-loop-holds Inv-loop μ-loop
-loop-holds c = between-start _ _ _ (omega arith)
+loop-holds c = between-start _ _ _ (omega (arith, two-rows (c .args .width) (omega arith)))
 
 sub-permissions : tie.Need-sub-permissions Inv-loop μ-loop
 sub-permissions c = omega arith
@@ -34,13 +37,13 @@ loop-less : tie.Need-loop-less Inv-loop μ-loop
 loop-less c = omega arith
 
 loop-again : tie.Need-loop-again Inv-loop μ-loop
-loop-again c = search (repeat-again 16 (omega arith))
+loop-again c = repeat-again _ (omega arith) _ _ _ (omega arith) (omega arith) (c .before .before .loop .inv)
 
 same-length : tie.Need-same-length Inv-loop μ-loop
 same-length c = search needs
 
 returns : tie.Need-returns Inv-loop μ-loop
-returns c = search (repeat-done 16 (omega arith))
+returns c = repeat-done _ (omega arith) _ _ _ (omega arith) (omega arith) (c .before .loop .inv)
 
 pub repeat-row-spec : {M : Type 1} → statement M
 repeat-row-spec =

@@ -5,20 +5,14 @@ use Rattle.permit.proofs.Laws.{set-masked}
 use Rattle.permit.proofs.write_one.Statement.{statement}
 use Rattle.permit.proofs.write_one.Tie as tie
 
-cast-row : tie.Need-cast-row
-cast-row c = search needs
-
 cast-group : tie.Need-cast-group
 cast-group c = search needs
 
-mul-at : tie.Need-mul-at
-mul-at c = search needs
+cast-byte-at : tie.Need-cast-byte-at
+cast-byte-at c = search needs
 
-sub-at : tie.Need-sub-at
-sub-at c = search needs
-
-add-at : tie.Need-add-at
-add-at c = search needs
+byte-at-requires : tie.Need-byte-at-requires
+byte-at-requires c κs = search needs
 
 mask-requires : tie.Need-mask-requires
 mask-requires c κs = search needs
@@ -36,17 +30,15 @@ same-length : tie.Need-same-length
 same-length c = search needs
 
 returns : tie.Need-returns
-returns c = search (set-masked 16)
+returns c = search set-masked
 
 pub write-one-spec : {M : Type 1} → statement M
 write-one-spec =
     tie.close
     (tie.spec
-    cast-row
     cast-group
-    mul-at
-    sub-at
-    add-at
+    cast-byte-at
+    byte-at-requires
     mask-requires
     slice-read-with-mask
     with-mask-requires

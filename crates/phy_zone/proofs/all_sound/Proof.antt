@@ -8,11 +8,11 @@ use Rattle.phy_zone.proofs.all_sound.Statement.{statement}
 use Rattle.phy_zone.proofs.all_sound.Tie as tie
 
 abbrev Inv-loop : tie.InvT-loop
-Inv-loop request k judged₀ judged =
-    Judged request k judged
+Inv-loop width request k judged₀ judged =
+    Judged width request k judged
 
 abbrev μ-loop : tie.MeasureT-loop
-μ-loop request k judged₀ judged = k - judged
+μ-loop width request k judged₀ judged = k - judged
 
 loop-holds : tie.Need-loop-holds Inv-loop μ-loop
 loop-holds c = search judged-start

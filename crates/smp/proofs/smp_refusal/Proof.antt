@@ -2,7 +2,7 @@
 -- Assumes nothing.
 use Rattle.tables.proofs.RefusalLaws.{rows, held-above, held-atMost}
 use Rattle.tables.proofs.ArrivalLaws.{arrival-there, arrival-front, arrival-back}
-use Rattle.smp.proofs.SmpLaws.{smp-whole}
+use Rattle.smp.proofs.SmpLaws.{smp-table}
 use native.Mathlib.Omega.{arith}
 use borrow.Author.Needs.{needs}
 use Rattle.smp.proofs.smp_refusal.Statement.{statement}
@@ -27,7 +27,7 @@ returns-3 : tie.Need-returns-3
 returns-3 c = search (arrival-back, rows) depth 16
 
 length-field-requires : tie.Need-length-field-requires
-length-field-requires c κs = (search arrival-there, search smp-whole, omega arith)
+length-field-requires c κs = (search arrival-there, search smp-table, omega arith)
 
 returns-4 : tie.Need-returns-4
 returns-4 c = search (arrival-back, rows, held-above) depth 16

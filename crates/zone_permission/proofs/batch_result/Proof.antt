@@ -1,6 +1,6 @@
 -- `zone_permission::batch_result` meets its contract.
 -- Assumes nothing.
-use Rattle.tables.proofs.RefusalLaws.{rows}
+use Rattle.tables.proofs.RefusalLaws.{rows, held-above, held-atMost}
 use native.Mathlib.Omega.{arith}
 use borrow.Author.Needs.{needs}
 use Rattle.zone_permission.proofs.batch_result.Statement.{statement}
@@ -28,7 +28,7 @@ cast-if2 : tie.Need-cast-if2
 cast-if2 c = omega (arith, c .before .shared-slice-known3 .given 10)
 
 cast-if2-2 : tie.Need-cast-if2-2
-cast-if2-2 c = omega (arith, c .before .shared-slice-known3 .given 11)
+cast-if2-2 c = search needs
 
 add-if2 : tie.Need-add-if2
 add-if2 c = omega (arith, c .before .shared-slice-known3 .given 10, c .before .shared-slice-known3 .given 11)
@@ -42,8 +42,17 @@ starts-low-requires c κs = search needs
 returns-3 : tie.Need-returns-3
 returns-3 c = search rows depth 16
 
+mul-if4 : tie.Need-mul-if4
+mul-if4 c = search needs
+
+rows-end-requires : tie.Need-rows-end-requires
+rows-end-requires c κs = search needs
+
 returns-4 : tie.Need-returns-4
-returns-4 c = search rows depth 16
+returns-4 c = search (rows, held-above) depth 16
+
+returns-5 : tie.Need-returns-5
+returns-5 c = search (rows, held-atMost) depth 16
 
 pub batch-result-spec : {M : Type 1} → statement M
 batch-result-spec =
@@ -61,4 +70,7 @@ batch-result-spec =
     returns-2
     starts-low-requires
     returns-3
-    returns-4)
+    mul-if4
+    rows-end-requires
+    returns-4
+    returns-5)

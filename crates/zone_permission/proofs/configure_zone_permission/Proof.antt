@@ -29,12 +29,12 @@ returns : tie.Need-returns
 returns c = search leaves-unchanged
 
 obey-requires : tie.Need-obey-requires
-obey-requires c κs = (omega arith, search accepted)
+obey-requires c κs = (search needs, search accepted)
 
 write-permission-set-requires : tie.Need-write-permission-set-requires
 write-permission-set-requires c κs =
     let start = c .before .before .before .before .before .before .before .before .before .before .before .before .before .before .before .before .before in
-    let a : Accepted (start .args .request .now) = search accepted in
+    let a : Accepted (start .args .width) (start .args .request .now) = search accepted in
     (omega arith, a .long, omega arith)
 
 same-length-4 : tie.Need-same-length-4

@@ -1,7 +1,7 @@
 -- `zone_permission::obey` meets its contract.
 -- Assumes nothing.
 use native.Mathlib.Omega.{arith}
-use Rattle.zone_permission.proofs.PermissionLaws.{Rows, batch-named, obeys-single, obeys-batch}
+use Rattle.zone_permission.proofs.PermissionLaws.{Rows, single-named, batch-named, obeys-single, obeys-batch}
 use borrow.Author.Needs.{needs}
 use Rattle.zone_permission.proofs.obey.Statement.{statement}
 use Rattle.zone_permission.proofs.obey.Tie as tie
@@ -10,10 +10,13 @@ shared-slice-read-operation : tie.Need-shared-slice-read-operation
 shared-slice-read-operation c = search needs
 
 obey-single-requires : tie.Need-obey-single-requires
-obey-single-requires c κs = search needs
+obey-single-requires c κs =
+    let start = c .before .before .before .before .before in
+    let n = single-named (start .args .width) (start .args .request .now) (omega arith) (start .pre .1) in
+    (start .pre .0, omega arith, omega arith, omega arith)
 
-shared-slice-read-t14 : tie.Need-shared-slice-read-t14
-shared-slice-read-t14 c = search needs
+shared-slice-read-t15 : tie.Need-shared-slice-read-t15
+shared-slice-read-t15 c = search needs
 
 shared-slice-read-batch : tie.Need-shared-slice-read-batch
 shared-slice-read-batch c = search needs
@@ -21,8 +24,8 @@ shared-slice-read-batch c = search needs
 batch-requires : tie.Need-batch-requires
 batch-requires c κs =
     let start = c .before .before .before .before .before .before .before in
-    let r = batch-named (start .args .request .now) (c .before .before .before .if1 .left) (start .pre .1) in
-    (omega arith, omega (arith, r .whole), r .within)
+    let r = batch-named (start .args .width) (start .args .request .now) (c .before .before .before .if1 .left) (start .pre .1) in
+    (start .pre .0, omega (arith, r .whole), r .within, r .held)
 
 same-length : tie.Need-same-length
 same-length c = search needs
@@ -42,7 +45,7 @@ obey-spec =
     (tie.spec
     shared-slice-read-operation
     obey-single-requires
-    shared-slice-read-t14
+    shared-slice-read-t15
     shared-slice-read-batch
     batch-requires
     same-length

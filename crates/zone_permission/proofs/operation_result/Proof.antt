@@ -21,7 +21,7 @@ returns-2 : tie.Need-returns-2
 returns-2 c = search picks-batch
 
 returns-3 : tie.Need-returns-3
-returns-3 c = picks-none _ (c .match .rest .0 .1) (c .match .rest .1)
+returns-3 c = picks-none _ _ (c .match .rest .0 .1) (c .match .rest .1)
 
 pub operation-result-spec : {M : Type 1} → statement M
 operation-result-spec =

@@ -32,14 +32,14 @@ row-count-requires c κs = search (report-long, report-start)
 write-report-requires : tie.Need-write-report-requires
 write-report-requires c κs = search (report-long, report-start)
 
-cast-t19 : tie.Need-cast-t19
-cast-t19 c = search needs
+cast-t20 : tie.Need-cast-t20
+cast-t20 c = search needs
 
-mul-t20 : tie.Need-mul-t20
-mul-t20 c = search needs
+mul-t21 : tie.Need-mul-t21
+mul-t21 c = search needs
 
-add-t21 : tie.Need-add-t21
-add-t21 c = search needs
+add-t22 : tie.Need-add-t22
+add-t22 c = search needs
 
 same-length-3 : tie.Need-same-length-3
 same-length-3 c = search needs
@@ -62,9 +62,9 @@ report-zone-permission-spec =
     returns
     row-count-requires
     write-report-requires
-    cast-t19
-    mul-t20
-    add-t21
+    cast-t20
+    mul-t21
+    add-t22
     same-length-3
     same-length-4
     returns-2)

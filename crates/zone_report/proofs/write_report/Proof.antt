@@ -46,12 +46,12 @@ slice-write-response-7 c = simp length-set (omega arith)
 slice-write-response-8 : tie.Need-slice-write-response-8
 slice-write-response-8 c = simp length-set (omega arith)
 
-shared-slice-read-t8 : tie.Need-shared-slice-read-t8
-shared-slice-read-t8 c = search needs
+shared-slice-read-t9 : tie.Need-shared-slice-read-t9
+shared-slice-read-t9 c = search needs
 
 report-rows-requires : tie.Need-report-rows-requires
 unfolding rowCount
-report-rows-requires c κs = simp length-set (omega arith)
+report-rows-requires c κs = (search needs, omega arith, simp length-set (omega arith))
 
 same-length : tie.Need-same-length
 same-length c = omega (arith, simp length-set at (c .before .response2 .given))
@@ -75,7 +75,7 @@ write-report-spec =
     slice-write-response-6
     slice-write-response-7
     slice-write-response-8
-    shared-slice-read-t8
+    shared-slice-read-t9
     report-rows-requires
     same-length
     returns)

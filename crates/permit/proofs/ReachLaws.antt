@@ -1,0 +1,58 @@
+-- Which groups reach which, of all groups, for any row width.
+-- Assumes nothing.
+use mathlib.Core.Path.{_≡_, refl, sym, ap, _∙_}
+use mathlib.Core.Bool.{Bool, true, false, cond, not, _&&_, _||_, or-comm}
+use mathlib.Core.List.{List}
+use Prim.Native.Nat.{ℕ, zero, suc, _+_, _%_, _^_, _≤_, _<_}
+use native.Mathlib.Decide.{decLt}
+use native.Mathlib.Omega.{arith}
+use borrow.Author.Tests.{lt-ltb, le-ltb}
+use lib.Dec.{eqb, ltb}
+use lib.ListN.{getD}
+use lib.Bits.{bitAnd}
+use Rattle.permit.specs.Permission.{groups, place, P, reaches}
+use Rattle.permit.specs.Orders.{rowsEnd}
+use Rattle.permit.proofs.BitOps.{and-test}
+use Rattle.permit.proofs.Laws.{Mutual}
+
+-- ---- the bit, as the code reads it
+pub bit-read : (w : ℕ) (t : List ℕ) (a b i m : ℕ) → i ≡ place w a b → m ≡ 2 ^ (b % 8) → not (eqb (bitAnd (getD t i 0) m) 0) ≡ P w t a b
+unfolding P
+bit-read w t a b i m ei em = rw (em, ei) (and-test (getD t (place w a b) 0) (b % 8))
+
+-- ---- the three cases of `reaches`
+module _ (w : ℕ) (t : List ℕ) (a b : ℕ) (x : Bool) where
+  pub reach-in : a < groups w → b < groups w → x ≡ P w t a b → x ≡ reaches w t a b
+  unfolding reaches
+  reach-in ha hb e = rw (lt-ltb a (groups w) ha, lt-ltb b (groups w) hb) e
+
+  pub reach-row : groups w ≤ a → x ≡ (eqb a 1 || eqb b 1) → x ≡ reaches w t a b
+  unfolding reaches
+  reach-row h e = rw (le-ltb a (groups w) h) e
+
+  pub reach-group : groups w ≤ b → x ≡ (eqb a 1 || eqb b 1) → x ≡ reaches w t a b
+  unfolding reaches
+  reach-group h e = rw (le-ltb b (groups w) h) (go (ltb a (groups w)))
+    where
+      go : (y : Bool) → x ≡ cond (y && false) (P w t a b) (eqb a 1 || eqb b 1)
+      go true = e
+      go false = e
+
+-- document 01's table holds every group
+pub reaches-16 : (t : List ℕ) (a b : ℕ) → a < 128 → b < 128 → reaches 16 t a b ≡ P 16 t a b
+reaches-16 t a b ha hb = sym (reach-in 16 t a b (P 16 t a b) ha hb refl)
+
+-- where the table is mutual, reaching is, of all groups
+pub reaches-mutual : (w : ℕ) (t : List ℕ) → Mutual w t → (c d : ℕ) → reaches w t c d ≡ reaches w t d c
+reaches-mutual w t m c d = go (decLt c (groups w)) (decLt d (groups w))
+  where
+    go : Dec (c < groups w) → Dec (d < groups w) → reaches w t c d ≡ reaches w t d c
+    go (yes hc) (yes hd) = sym (reach-in w t c d (P w t c d) hc hd refl) ∙ m c d hc hd ∙ reach-in w t d c (P w t d c) hd hc refl
+    go (no hc) d′ = sym (reach-row w t c d _ (omega arith) refl) ∙ or-comm (eqb c 1) (eqb d 1) ∙ reach-group w t d c _ (omega arith) refl
+    go (yes hc) (no hd) = sym (reach-group w t c d _ (omega arith) refl) ∙ or-comm (eqb c 1) (eqb d 1) ∙ reach-row w t d c _ (omega arith) refl
+
+-- ---- a batch's rows are of groups that the table holds
+pub rows-end : (w start count i : ℕ) → i < count → rowsEnd start count ≤ groups w → start + i < groups w
+unfolding rowsEnd
+rows-end w start zero i h l = absurd (omega arith)
+rows-end w start (suc n) i h l = omega arith

@@ -1,0 +1,98 @@
+// The small shelf: groups 0 to 7, a permission table of 8 bytes. Every public call of the profile, in one place. The calls that are lent the
+// permission table are document 01's at a row width of one byte; the others are document 01's own. What is promised of them is promised for
+// every row width, in shelf/specs/Promises.antt; specs/Promises.antt says it in this shelf's numbers.
+use wire::PhyNumber;
+ghost use mathlib.Core.Path.{_≡_};
+ghost use mathlib.Core.List.{[], _∷_};
+ghost use Rattle.tables.specs.Outcome.{out};
+ghost use Rattle.links.specs.Links.{linkedAs, startUpOut};
+ghost use Rattle.opens.specs.Open.{openedAs, openOut};
+ghost use Rattle.broadcasts.specs.Broadcasts.{toldAs, primitiveOut, broadcastOut};
+ghost use Rattle.smp.specs.Smp.{answeredAs, smpOut};
+
+// The answers.
+pub use broadcasts::Told;
+pub use election::Elected;
+pub use links::Linked;
+pub use opens::Opened;
+pub use smp::Answered;
+
+// A phy leaves the ready state; IDENTIFY arrives on one; the elected supervisor.
+pub use election::elect;
+pub use links::identify;
+pub use links::leaving;
+
+// The row width in bytes.
+const WIDTH: usize = 1;
+
+// Start-up writes the permission table.
+pub fn start_up(permissions: &mut [u8]) -> Linked
+    ensures { λ r. ⌜ out (linkedAs r) (now (permissions .exit) ∷ []) ≡ startUpOut 1 (now (permissions .entry)) ⌝ }
+{
+    links::start_up_at(WIDTH, permissions)
+}
+
+// An OPEN frame arrives.
+pub fn open(
+    phys: &[u8],
+    routes: &[u8],
+    permissions: &[u8],
+    phy: PhyNumber,
+    frame: &[u8],
+    buffer: &mut [u8],
+) -> Opened
+    ensures { λ r. ⌜ out (openedAs r) (now (buffer .exit) ∷ []) ≡ openOut 1 (now (phys .entry)) (now (routes .entry)) (now (permissions .entry)) (phy .0) (now (frame .entry)) (now (buffer .entry)) ⌝ }
+{
+    opens::open_at(WIDTH, phys, routes, permissions, phy, frame, buffer)
+}
+
+// A broadcast arrives, as a primitive or as a frame.
+pub fn primitive(
+    phys: &[u8],
+    permissions: &[u8],
+    phy: PhyNumber,
+    number: u8,
+    set: &mut [u8],
+    frame: &mut [u8],
+) -> Told
+    ensures { λ r. ⌜ out (toldAs r) (now (set .exit) ∷ now (frame .exit) ∷ []) ≡ primitiveOut 1 (now (phys .entry)) (now (permissions .entry)) (phy .0) number (now (set .entry)) (now (frame .entry)) ⌝ }
+{
+    broadcasts::primitive_at(WIDTH, phys, permissions, phy, number, set, frame)
+}
+
+pub fn broadcast_frame(
+    phys: &[u8],
+    permissions: &[u8],
+    phy: PhyNumber,
+    arrived: &[u8],
+    set: &mut [u8],
+    frame: &mut [u8],
+) -> Told
+    ensures { λ r. ⌜ out (toldAs r) (now (set .exit) ∷ now (frame .exit) ∷ []) ≡ broadcastOut 1 (now (phys .entry)) (now (permissions .entry)) (phy .0) (now (arrived .entry)) (now (set .entry)) (now (frame .entry)) ⌝ }
+{
+    broadcasts::broadcast_frame_at(WIDTH, phys, permissions, phy, arrived, set, frame)
+}
+
+// An SMP request arrives.
+pub fn smp(
+    phys: &mut [u8],
+    permissions: &mut [u8],
+    phy: PhyNumber,
+    carried: u8,
+    request: &[u8],
+    response: &mut [u8],
+    set: &mut [u8],
+) -> Answered
+    ensures { λ r. ⌜ out (answeredAs r) (now (phys .exit) ∷ now (permissions .exit) ∷ now (response .exit) ∷ now (set .exit) ∷ []) ≡ smpOut 1 (now (phys .entry)) (now (permissions .entry)) (phy .0) carried (now (request .entry)) (now (response .entry)) (now (set .entry)) ⌝ }
+{
+    smp::smp_at(
+        WIDTH,
+        phys,
+        permissions,
+        phy,
+        carried,
+        request,
+        response,
+        set,
+    )
+}

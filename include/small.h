@@ -1,0 +1,111 @@
+/* The zoning part of a SAS expander, the small shelf's profile, for C. The calls, their answers and every frame are those of shelf.h;
+ * what differs is the permission table, and what is said under Groups.
+ *
+ * Every call takes numbers and pointer-length pairs, answers for all bytes, and has no precondition on their contents.
+ * A pointer must be readable (or, where it is not const, readable and writable) for its length in bytes and must not be
+ * null, also where the length is 0. No two buffers of one call may overlap where one of the two is written.
+ *
+ * refusal   0 where the call was answered, else the numbered refusal of the scope document (1 to 8). A refused call writes
+ *           no byte of any buffer, and the other fields of its answer are 0.
+ *
+ * A number that C could narrow silently is taken as 32 bits and never truncated:
+ *   phy      256 or more is refused as any number that is not below the number of phys: 2
+ *   number   256 or more is refused as any primitive number over 7: 5
+ *   carried  256 or more is no byte: refused as 5, after the other causes of 5
+ *
+ * Sizes: phys 1 to 128 records of 12 bytes; routes 0 to 1,024 records of 12 bytes; permissions 8 bytes.
+ *
+ * Groups: the permission table holds groups 0 to 7, group a's row in byte a, group j in bit j. Groups 8 to 127 reach only group 1 and
+ * are reached only by it. Phy records, route records, frames and carried bytes may name them; an SMP request that would write a group
+ * above 7 (a C1h single order or batch row, a 93h descriptor) gets result 02h where nothing else is wrong with it, and the bits for
+ * such groups in a batch row are ignored. A report shows all 128 groups, in document 01's rows of 16 bytes.
+ *
+ * Ports: all ready phys with the same attached address are one port, by the phy table as it is at the call; a phy whose address is
+ * zero is a port by itself.
+ *
+ * The archive is code and constants alone. It calls nothing outside itself and has no variables: no C library, no heap, no
+ * globals. All that a call knows is in its arguments, so calls may run at once, on several cores or one interrupting another,
+ * where no buffer that one of them takes as not const overlaps a buffer of another. Calls that only read may share their tables;
+ * calls that share a table which one of them writes must not run at once: the caller lets one end before the next starts.
+ * Like any code of the x86-64 System V ABI it may use the 128 bytes below the stack pointer: an interrupt handler on the same
+ * stack must leave them as they are. README.md says how much stack each call takes. */
+#ifndef SMALL_H
+#define SMALL_H
+
+#include <stddef.h>
+#include <stdint.h>
+
+#ifdef __cplusplus
+extern "C" {
+#endif
+
+/* small_open's outcome */
+enum { SMALL_NO_DESTINATION = 1, SMALL_BAD_DESTINATION = 2, SMALL_ZONE_VIOLATION = 3, SMALL_FORWARD = 4 };
+
+struct small_elected {
+    uint32_t refusal;
+    uint32_t priority; /* 0 where there is no candidate */
+    uint64_t address;  /* 0 where there is no candidate */
+};
+
+struct small_opened {
+    uint32_t refusal;
+    uint32_t outcome; /* 1 to 4 */
+    uint32_t phy;     /* the phy to forward on, where outcome is SMALL_FORWARD; else 0 */
+};
+
+struct small_told {
+    uint32_t refusal;
+    uint32_t count; /* how many phys the set holds */
+};
+
+struct small_answered {
+    uint32_t refusal;
+    uint32_t result; /* the response's byte 2 */
+    uint32_t length; /* how many bytes of the response were written */
+    uint32_t count;  /* how many phys the set holds */
+};
+
+/* Start-up. Refusals: 1. Writes all of permissions. */
+uint32_t small_start_up(uint8_t *permissions, size_t permissions_len);
+
+/* A phy leaves the ready state. Refusals: 1, 2, 7. Writes byte 2 of the phy's record. */
+uint32_t small_leaving(uint8_t *phys, size_t phys_len, uint32_t phy);
+
+/* IDENTIFY arrives: address is the attached SAS address, 8 bytes, big-endian. Refusals: 1, 2, 7 (already ready), 4 (address_len
+ * is not 8), 5 (address zero). Writes bytes 2 and 4 to 11 of the phy's record and, where another address was known, bytes 0 and 1. */
+uint32_t small_identify(uint8_t *phys, size_t phys_len, uint32_t phy, const uint8_t *address, size_t address_len);
+
+/* The elected supervisor. Refusals: 1. Writes nothing. */
+struct small_elected small_elect(const uint8_t *phys, size_t phys_len, const uint8_t *routes, size_t routes_len);
+
+/* An OPEN frame arrives. Refusals: 1, 2, 3 (out_len under 28), 7, 4, 5. Writes the first 28 bytes of out, and only where the
+ * outcome is SMALL_FORWARD. The outcome is SMALL_BAD_DESTINATION where the phy found is in the arriving phy's port. */
+struct small_opened small_open(const uint8_t *phys, size_t phys_len, const uint8_t *routes, size_t routes_len,
+                               const uint8_t *permissions, size_t permissions_len, uint32_t phy, const uint8_t *frame,
+                               size_t frame_len, uint8_t *out, size_t out_len);
+
+/* A broadcast primitive arrives. Refusals: 1, 2, 3 (set_len under 16 or out_len under 28), 7, 5. Writes the first 16 bytes of
+ * set and the first 28 of out, the frame for participating phys. The set has, of each port but the arriving phy's, the lowest phy
+ * whose group the source group may reach. */
+struct small_told small_primitive(const uint8_t *phys, size_t phys_len, const uint8_t *permissions, size_t permissions_len,
+                                  uint32_t phy, uint32_t number, uint8_t *set, size_t set_len, uint8_t *out, size_t out_len);
+
+/* A broadcast frame arrives. Refusals: 1, 2, 3 (set_len under 16 or out_len under 28), 7, 4, 5, 6. Writes as small_primitive. */
+struct small_told small_broadcast_frame(const uint8_t *phys, size_t phys_len, const uint8_t *permissions,
+                                        size_t permissions_len, uint32_t phy, const uint8_t *frame, size_t frame_len,
+                                        uint8_t *set, size_t set_len, uint8_t *out, size_t out_len);
+
+/* An SMP request arrives; carried is the byte that the caller took from the connection's OPEN. Refusals: 1, 2, 3 (response_len
+ * under 1,020 or set_len under 16), 7, 4, 5, 8. Writes the first length bytes of response and the first 16 of set; where result
+ * is 0 and the function is 93h also bytes 0 and 1 of the records named, and where it is C1h also permissions. Where result is not 0
+ * length is 4 and the 16 bytes of set are zero. A change notice (93h, C1h) goes to all ready phys, whatever their ports. */
+struct small_answered small_smp(uint8_t *phys, size_t phys_len, uint8_t *permissions, size_t permissions_len, uint32_t phy,
+                                uint32_t carried, const uint8_t *request, size_t request_len, uint8_t *response,
+                                size_t response_len, uint8_t *set, size_t set_len);
+
+#ifdef __cplusplus
+}
+#endif
+
+#endif

@@ -37,7 +37,8 @@ plant() {
 }
 
 missed=0
-plant 'rows read and written from the wrong end' permission.rs '(15 - group \/ 8, group % 8)' '(group \/ 8, group % 8)'
+plant 'rows read and written from the wrong end' permission.rs '(WIDTH - 1 - group \/ 8, group % 8)' \
+    '(group \/ 8, group % 8)'
 plant 'the fill of an odd k judged as a descriptor' smp.rs '\[\.\.2 \* k\]' '[..2 * k + fill]'
 plant 'a participating phy speaks for its own group' speaking.rs 'if arriving.participating' 'if false'
 plant 'only one of (a,b) and (b,a) written' permission.rs 'write_one(&mut rows\[b.index()\], a.index(), on);' ''

@@ -1,6 +1,6 @@
 //! Bench rack: the fixed table, and the text that the bench program prints for a stream of events.
 
-use crate::{broadcast_frame, identify, leaving, open, primitive, smp, start_up};
+use crate::large::{broadcast_frame, identify, leaving, open, primitive, smp, start_up};
 use std::fmt::Write;
 
 pub const FIRST_LINE: &str = "rack 1";

@@ -5,7 +5,7 @@ use crate::permission::permitted;
 use crate::ports::same_port;
 use crate::refusals::{arriving_phy, ready, refuse_if, room, Refusal};
 use crate::speaking::source_group;
-use crate::tables::{permission_table, phy_table, Group, PhyRecord, Record, Row, GROUPS};
+use crate::tables::{permission_table, phy_table, Group, PhyRecord, Record, Row};
 
 /// The bytes of a phy set. Phy i is at bit i mod 8 of byte i/8: bit i of a little-endian number.
 pub const SET: usize = 16;
@@ -32,19 +32,26 @@ impl From<Result<u32, Refusal>> for Told {
 }
 
 /// A broadcast primitive arrives.
-pub fn primitive(phys: &[u8], permissions: &[u8], phy: u32, number: u32, set: &mut [u8], out: &mut [u8]) -> Told {
-    try_primitive(phys, permissions, phy, number, set, out, one_of_each_other_port).into()
-}
-
-/// `told` says who is told: the rule as it is read, or, where the time counts, another way to the same phys.
-pub(crate) fn try_primitive(
+pub fn primitive<const WIDTH: usize>(
     phys: &[u8],
     permissions: &[u8],
     phy: u32,
     number: u32,
     set: &mut [u8],
     out: &mut [u8],
-    told: impl Fn(&[Record], &[Row; GROUPS], usize, Group) -> u128,
+) -> Told {
+    try_primitive(phys, permissions, phy, number, set, out, one_of_each_other_port::<WIDTH>).into()
+}
+
+/// `told` says who is told: the rule as it is read, or, where the time counts, another way to the same phys.
+pub(crate) fn try_primitive<const WIDTH: usize>(
+    phys: &[u8],
+    permissions: &[u8],
+    phy: u32,
+    number: u32,
+    set: &mut [u8],
+    out: &mut [u8],
+    told: impl Fn(&[Record], &[Row<WIDTH>], usize, Group) -> u128,
 ) -> Result<u32, Refusal> {
     let (phys, rows) = (phy_table(phys)?, permission_table(permissions)?);
     let place = arriving_phy(phys, phy)?;
@@ -56,7 +63,7 @@ pub(crate) fn try_primitive(
 }
 
 /// A broadcast frame arrives.
-pub fn broadcast_frame(
+pub fn broadcast_frame<const WIDTH: usize>(
     phys: &[u8],
     permissions: &[u8],
     phy: u32,
@@ -64,16 +71,18 @@ pub fn broadcast_frame(
     set: &mut [u8],
     out: &mut [u8],
 ) -> Told {
-    try_broadcast_frame(phys, permissions, phy, frame, set, out).into()
+    try_broadcast_frame(phys, permissions, phy, frame, set, out, one_of_each_other_port::<WIDTH>).into()
 }
 
-fn try_broadcast_frame(
+/// `told` is that of `try_primitive`.
+pub(crate) fn try_broadcast_frame<const WIDTH: usize>(
     phys: &[u8],
     permissions: &[u8],
     phy: u32,
     frame: &[u8],
     set: &mut [u8],
     out: &mut [u8],
+    told: impl Fn(&[Record], &[Row<WIDTH>], usize, Group) -> u128,
 ) -> Result<u32, Refusal> {
     let (phys, rows) = (phy_table(phys)?, permission_table(permissions)?);
     let place = arriving_phy(phys, phy)?;
@@ -89,7 +98,7 @@ fn try_broadcast_frame(
     refuse_if(!arriving.participating, Refusal::NotParticipating)?;
     let number = frame[0] >> 4 & 0x7;
     let source = source_group(&arriving, frame[GROUP_BYTE]);
-    Ok(tell(one_of_each_other_port(phys, rows, place, source), source, number, set, out))
+    Ok(tell(told(phys, rows, place, source), source, number, set, out))
 }
 
 /// Writes the set and the frame for participating phys; answers how many phys are told.
@@ -100,7 +109,12 @@ fn tell(told: u128, source: Group, number: u8, set: &mut [u8], out: &mut [u8]) -
 }
 
 /// The lowest permitted phy of each port but the arriving phy's.
-fn one_of_each_other_port(phys: &[Record], rows: &[Row; GROUPS], arriving: usize, source: Group) -> u128 {
+fn one_of_each_other_port<const WIDTH: usize>(
+    phys: &[Record],
+    rows: &[Row<WIDTH>],
+    arriving: usize,
+    source: Group,
+) -> u128 {
     let reached = phy_set(phys, |record| permitted(rows, source, record.group));
     let is_permitted = |phy: &usize| reached >> phy & 1 == 1;
     let has_lower = |phy: usize| (0..phy).filter(is_permitted).any(|lower| same_port(phys, lower, phy));

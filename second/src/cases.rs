@@ -1,7 +1,8 @@
 //! Cases 1 to 12 of document 01, and others worked out by hand from its text.
 
 use crate::bench::{self, Event, Rack};
-use crate::{broadcast_frame, elect, identify, leaving, open, primitive, smp, Answered, Elected, Opened, Told};
+use crate::large::{broadcast_frame, elect, identify, leaving, open, primitive, smp};
+use crate::{Answered, Elected, Opened, Told};
 
 mod ports;
 

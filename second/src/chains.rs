@@ -1,18 +1,37 @@
 //! The same rule on broadcasts by chains, for timing only. The model that judges is the quadratic one.
 //!
-//! The permitted phys of other ports whose addresses go to one slot are a chain: the slot has the last of them so far, and
-//! each the one before it. So a phy is compared with those of its slot alone.
+//! The permitted phys of other ports whose addresses go to one slot are a chain: the slot has the last of them so far,
+//! and each the one before it. So a phy is compared with those of its slot alone.
 
-use crate::broadcast::{try_primitive, Told, SET};
+use crate::broadcast::{try_broadcast_frame, try_primitive, Told, SET};
 use crate::permission::permitted;
-use crate::tables::{Group, PhyRecord, Record, Row, GROUPS};
+use crate::tables::{Group, PhyRecord, Record, Row};
 
 const SLOTS: usize = 256;
 const PHYS: usize = 128;
 
 /// A broadcast primitive arrives.
-pub fn primitive(phys: &[u8], permissions: &[u8], phy: u32, number: u32, set: &mut [u8], out: &mut [u8]) -> Told {
-    try_primitive(phys, permissions, phy, number, set, out, told).into()
+pub fn primitive<const WIDTH: usize>(
+    phys: &[u8],
+    permissions: &[u8],
+    phy: u32,
+    number: u32,
+    set: &mut [u8],
+    out: &mut [u8],
+) -> Told {
+    try_primitive(phys, permissions, phy, number, set, out, told::<WIDTH>).into()
+}
+
+/// A broadcast frame arrives.
+pub fn broadcast_frame<const WIDTH: usize>(
+    phys: &[u8],
+    permissions: &[u8],
+    phy: u32,
+    frame: &[u8],
+    set: &mut [u8],
+    out: &mut [u8],
+) -> Told {
+    try_broadcast_frame(phys, permissions, phy, frame, set, out, told::<WIDTH>).into()
 }
 
 /// A slot and a link hold one more than a phy's number, or 0 where there is none.
@@ -43,7 +62,7 @@ pub fn slot_of(address: u64) -> usize {
     (u64::from(address as u32) * 2_654_435_761 >> 24) as usize % SLOTS
 }
 
-fn told(phys: &[Record], rows: &[Row; GROUPS], arriving: usize, source: Group) -> u128 {
+fn told<const WIDTH: usize>(phys: &[Record], rows: &[Row<WIDTH>], arriving: usize, source: Group) -> u128 {
     let own = PhyRecord::from(&phys[arriving]).address;
     let mut chains = Chains { slots: [0; SLOTS], links: [0; PHYS] };
     let mut set = [0u8; SET];
@@ -60,6 +79,7 @@ fn told(phys: &[Record], rows: &[Row; GROUPS], arriving: usize, source: Group) -
 #[cfg(test)]
 mod tests {
     use super::*;
+    use crate::tables::LARGE;
     use crate::trial::call::Call;
     use crate::trial::generate::Generator;
 
@@ -72,7 +92,7 @@ mod tests {
             let answer = call.model();
             generator.keep(&call, &answer);
             if let Call::Primitive { phys, permissions, phy, number, mut set, mut out } = call {
-                let by_chains = primitive(&phys, &permissions, phy, number, &mut set, &mut out);
+                let by_chains = primitive::<LARGE>(&phys, &permissions, phy, number, &mut set, &mut out);
                 assert_eq!([by_chains.refusal, by_chains.count].map(u64::from), answer.fields[..2]);
                 assert_eq!(vec![set, out], answer.buffers);
                 told += u64::from(by_chains.count);

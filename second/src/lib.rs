@@ -1,8 +1,9 @@
-//! The second program: document 01's rules once more, with document 02's request 01 (wide ports), written from their
-//! texts alone.
+//! The second program: document 01's rules once more, with document 02's requests 01 (wide ports) and 09 (the small
+//! shelf), written from their texts alone.
 //!
-//! There is one public function for each call of `include/shelf.h`, with the same meaning for every input: tables and
-//! buffers come as slices, numbers as `u32`, and the answer is a plain struct with the header's fields.
+//! `large` has one function for each call of `include/shelf.h` and `small` one for each of `include/small.h`, with the
+//! same meaning for every input: tables and buffers come as slices, numbers as `u32`, and the answer is a plain struct
+//! with the header's fields.
 
 pub mod bench;
 pub mod broadcast;
@@ -12,16 +13,17 @@ pub mod open;
 pub mod permission;
 pub mod ports;
 pub mod refusals;
+pub mod shelves;
 pub mod smp;
 pub mod speaking;
 pub mod tables;
 pub mod trial;
 
-pub use broadcast::{broadcast_frame, primitive, Told};
-pub use links::{elect, identify, leaving, Elected};
-pub use open::{open, Opened, Outcome};
-pub use permission::start_up;
-pub use smp::{smp, Answered};
+pub use broadcast::Told;
+pub use links::Elected;
+pub use open::{Opened, Outcome};
+pub use shelves::{large, small};
+pub use smp::Answered;
 
 #[cfg(test)]
 mod cases;

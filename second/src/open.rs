@@ -41,14 +41,21 @@ impl From<Outcome> for Opened {
 }
 
 /// An OPEN frame arrives.
-pub fn open(phys: &[u8], routes: &[u8], permissions: &[u8], phy: u32, frame: &[u8], out: &mut [u8]) -> Opened {
-    match try_open(phys, routes, permissions, phy, frame, out) {
+pub fn open<const WIDTH: usize>(
+    phys: &[u8],
+    routes: &[u8],
+    permissions: &[u8],
+    phy: u32,
+    frame: &[u8],
+    out: &mut [u8],
+) -> Opened {
+    match try_open::<WIDTH>(phys, routes, permissions, phy, frame, out) {
         Ok(outcome) => outcome.into(),
         Err(refusal) => Opened { refusal: refusal.number(), ..Opened::default() },
     }
 }
 
-fn try_open(
+fn try_open<const WIDTH: usize>(
     phys: &[u8],
     routes: &[u8],
     permissions: &[u8],
@@ -56,7 +63,7 @@ fn try_open(
     frame: &[u8],
     out: &mut [u8],
 ) -> Result<Outcome, Refusal> {
-    let (phys, routes, rows) = (phy_table(phys)?, route_table(routes)?, permission_table(permissions)?);
+    let (phys, routes, rows) = (phy_table(phys)?, route_table(routes)?, permission_table::<WIDTH>(permissions)?);
     let place = arriving_phy(phys, phy)?;
     room(out, FRAME)?;
     let arriving = ready(&phys[place])?;

@@ -1,10 +1,11 @@
 //! The permission table: reading it, start-up, and writing orders into it.
 //!
-//! Group j is bit j mod 8 of byte 15 - j/8 of a row. So a row, read as one big-endian number, has group j at bit j: whole
-//! rows are handled as such numbers, single bits by their place.
+//! Group j is bit j mod 8 of byte 15 - j/8 of a row. So a row, read as one big-endian number, has group j at bit j:
+//! whole rows are handled as such numbers, single bits by their place. A row of the small shelf is the last byte of
+//! such a row.
 
 use crate::refusals::{number, Refusal};
-use crate::tables::{permission_table_mut, Group, Row, GROUPS};
+use crate::tables::{permission_table_mut, Group, Row, WireRow, LARGE};
 
 /// Bits of a row for groups 0 and 1, which no order names.
 const UNNAMED: u128 = 0b11;
@@ -15,69 +16,108 @@ pub const FIRST_NAMED: usize = 2;
 /// A caller may change zoning exactly if its group reaches this one.
 const MANAGEMENT: u8 = 2;
 
+/// The group that reaches every group which the table does not have, and the only one that those reach.
+const GROUP_1: usize = 1;
+
+/// A row in which only group 1 is on.
+const GROUP_1_ALONE: u128 = 1 << GROUP_1;
+
 /// Start-up: group 1 reaches all groups, every other group only group 1.
-pub fn start_up(permissions: &mut [u8]) -> u32 {
-    number(try_start_up(permissions))
+pub fn start_up<const WIDTH: usize>(permissions: &mut [u8]) -> u32 {
+    number(try_start_up::<WIDTH>(permissions))
 }
 
-fn try_start_up(permissions: &mut [u8]) -> Result<(), Refusal> {
-    let rows = permission_table_mut(permissions)?;
-    rows.fill((1u128 << 1).to_be_bytes());
-    rows[1] = u128::MAX.to_be_bytes();
+fn try_start_up<const WIDTH: usize>(permissions: &mut [u8]) -> Result<(), Refusal> {
+    let rows = permission_table_mut::<WIDTH>(permissions)?;
+    rows.fill(row_of(GROUP_1_ALONE));
+    rows[GROUP_1] = row_of(u128::MAX);
     Ok(())
 }
 
-/// P(a, b).
-pub fn permitted(rows: &[Row; GROUPS], a: Group, b: Group) -> bool {
-    is_on(&rows[a.index()], b.index())
+/// P(a, b): the table's bit where it has both groups. Groups that it does not have reach only group 1 and are reached
+/// only by it.
+pub fn permitted<const WIDTH: usize>(rows: &[Row<WIDTH>], a: Group, b: Group) -> bool {
+    match rows.get(a.index()) {
+        Some(row) if b.is_in_table(WIDTH) => is_on(row, b.index()),
+        _ => a.index() == GROUP_1 || b.index() == GROUP_1,
+    }
+}
+
+/// Rows of P from `start` on, as a report shows them: those of the table, and then those of groups that it does not
+/// have. Of the first only row 1 reaches such groups.
+pub fn show_rows<const WIDTH: usize>(rows: &[Row<WIDTH>], start: usize, shown: &mut [WireRow]) {
+    let in_table = rows.get(start..).unwrap_or_default();
+    let (first, others) = shown.split_at_mut(shown.len().min(in_table.len()));
+    for (shown, row) in first.iter_mut().zip(in_table) {
+        *shown = number_of(row).to_be_bytes();
+    }
+    others.fill(GROUP_1_ALONE.to_be_bytes());
+    if let Some(row_1) = GROUP_1.checked_sub(start).and_then(|place| first.get_mut(place)) {
+        row_1[..LARGE - WIDTH].fill(0xff);
+    }
 }
 
 /// Whether a caller of this group may change zoning.
-pub fn may_change_zoning(rows: &[Row; GROUPS], source: Group) -> bool {
+pub fn may_change_zoning<const WIDTH: usize>(rows: &[Row<WIDTH>], source: Group) -> bool {
     permitted(rows, source, Group::low_7_bits(MANAGEMENT))
 }
 
 /// A single order: the new value goes to both places.
-pub fn write_pair(rows: &mut [Row; GROUPS], a: Group, b: Group, on: bool) {
+pub fn write_pair<const WIDTH: usize>(rows: &mut [Row<WIDTH>], a: Group, b: Group, on: bool) {
     write_one(&mut rows[a.index()], b.index(), on);
     write_one(&mut rows[b.index()], a.index(), on);
 }
 
-/// One row of a batch: for every j from 2 to 127 both (r, j) and (j, r).
-pub fn write_row(rows: &mut [Row; GROUPS], r: usize, new: &Row) {
-    let [old, named] = [&rows[r], new].map(|row| u128::from_be_bytes(*row));
-    rows[r] = (named & !UNNAMED | old & UNNAMED).to_be_bytes();
+/// One row of a batch: for every j from 2 to the table's last group both (r, j) and (j, r). The row's bits for groups
+/// that the table does not have are ignored.
+pub fn write_row<const WIDTH: usize>(rows: &mut [Row<WIDTH>], r: usize, new: &WireRow) {
+    let new = new.last_chunk().expect("no table is wider");
+    let [old, named] = [&rows[r], new].map(number_of);
+    rows[r] = row_of(named & !UNNAMED | old & UNNAMED);
     for (j, row) in rows.iter_mut().enumerate().skip(FIRST_NAMED) {
         write_one(row, r, is_on(new, j));
     }
 }
 
-fn is_on(row: &Row, group: usize) -> bool {
-    let (byte, bit) = place(group);
+/// A row as a number, with group j at bit j.
+fn number_of<const WIDTH: usize>(row: &Row<WIDTH>) -> u128 {
+    let mut wide = [0; LARGE];
+    wide[LARGE - WIDTH..].copy_from_slice(row);
+    u128::from_be_bytes(wide)
+}
+
+/// The other way round. Bits for groups that the row does not have are lost.
+fn row_of<const WIDTH: usize>(number: u128) -> Row<WIDTH> {
+    *number.to_be_bytes().last_chunk().expect("no table is wider")
+}
+
+fn is_on<const WIDTH: usize>(row: &Row<WIDTH>, group: usize) -> bool {
+    let (byte, bit) = place::<WIDTH>(group);
     row[byte] >> bit & 1 == 1
 }
 
-fn write_one(row: &mut Row, group: usize, on: bool) {
-    let (byte, bit) = place(group);
+fn write_one<const WIDTH: usize>(row: &mut Row<WIDTH>, group: usize, on: bool) {
+    let (byte, bit) = place::<WIDTH>(group);
     row[byte] = row[byte] & !(1 << bit) | u8::from(on) << bit;
 }
 
 /// Where a group's bit is in a row.
-fn place(group: usize) -> (usize, usize) {
-    (15 - group / 8, group % 8)
+fn place<const WIDTH: usize>(group: usize) -> (usize, usize) {
+    (WIDTH - 1 - group / 8, group % 8)
 }
 
 #[cfg(test)]
 mod tests {
     use super::*;
+    use crate::tables::GROUPS;
 
     fn group(number: u8) -> Group {
         Group::low_7_bits(number)
     }
 
-    fn fresh() -> [Row; GROUPS] {
+    fn fresh() -> [Row<LARGE>; GROUPS] {
         let mut table = [0xaa; 2048];
-        assert_eq!(start_up(&mut table), 0);
+        assert_eq!(start_up::<LARGE>(&mut table), 0);
         table.as_chunks().0.try_into().unwrap()
     }
 
@@ -94,7 +134,7 @@ mod tests {
     #[test]
     fn start_up_refuses_another_size_and_writes_nothing() {
         let mut short = [0xaa; 2047];
-        assert_eq!(start_up(&mut short), 1);
+        assert_eq!(start_up::<LARGE>(&mut short), 1);
         assert_eq!(short, [0xaa; 2047]);
     }
 

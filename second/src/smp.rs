@@ -1,10 +1,10 @@
 //! SMP: the three functions and everything around them.
 
 use crate::broadcast::{phy_set, write_set, SET};
-use crate::permission::{may_change_zoning, write_pair, write_row, FIRST_NAMED};
+use crate::permission::{may_change_zoning, show_rows, write_pair, write_row, FIRST_NAMED};
 use crate::refusals::{arriving_phy, ready, refuse_if, room, Refusal};
 use crate::speaking::source_group;
-use crate::tables::{permission_table_mut, phy_table_mut, Group, Record, Row, GROUPS};
+use crate::tables::{groups_of_table, permission_table_mut, phy_table_mut, Group, Record, Row, GROUPS, LARGE};
 
 pub const REQUEST_TYPE: u8 = 0x40;
 pub const RESPONSE_TYPE: u8 = 0x41;
@@ -18,7 +18,6 @@ pub const RESPONSE: usize = 1020;
 const HEADER: usize = 4;
 const REPORT_HEADER: usize = 12;
 const LARGEST_REPORT: usize = 63;
-const ROW: usize = 16;
 
 /// Refusal 8 never occurs: every other length field is 0.
 pub const LONGEST_LENGTH_FIELD: usize = report_length_field(LARGEST_REPORT);
@@ -53,7 +52,7 @@ pub struct Answered {
 }
 
 /// An SMP request arrives; `carried` is the byte that the caller took from the connection's OPEN.
-pub fn smp(
+pub fn smp<const WIDTH: usize>(
     phys: &mut [u8],
     permissions: &mut [u8],
     phy: u32,
@@ -62,11 +61,11 @@ pub fn smp(
     response: &mut [u8],
     set: &mut [u8],
 ) -> Answered {
-    try_smp(phys, permissions, phy, carried, request, response, set)
+    try_smp::<WIDTH>(phys, permissions, phy, carried, request, response, set)
         .unwrap_or_else(|refusal| Answered { refusal: refusal.number(), ..Answered::default() })
 }
 
-fn try_smp(
+fn try_smp<const WIDTH: usize>(
     phys: &mut [u8],
     permissions: &mut [u8],
     phy: u32,
@@ -75,7 +74,7 @@ fn try_smp(
     response: &mut [u8],
     set: &mut [u8],
 ) -> Result<Answered, Refusal> {
-    let (phys, rows) = (phy_table_mut(phys)?, permission_table_mut(permissions)?);
+    let (phys, rows) = (phy_table_mut(phys)?, permission_table_mut::<WIDTH>(permissions)?);
     let place = arriving_phy(phys, phy)?;
     room(response, RESPONSE)?;
     room(set, SET)?;
@@ -86,7 +85,7 @@ fn try_smp(
 
     let right = may_change_zoning(rows, source_group(&arriving, carried));
     let answer = match request[1] {
-        CONFIGURE_PHY_ZONE => configure_phy_zone(phys, right, request),
+        CONFIGURE_PHY_ZONE => configure_phy_zone::<WIDTH>(phys, right, request),
         CONFIGURE_ZONE_PERMISSION => configure_zone_permission(phys, rows, right, request),
         REPORT_ZONE_PERMISSION => report_zone_permission(rows, right, request, response),
         _ => Err(TurnedDown::UnknownFunction),
@@ -128,7 +127,11 @@ fn all_ready(phys: &[Record]) -> u128 {
     phy_set(phys, |_| true)
 }
 
-fn configure_phy_zone(phys: &mut [Record], right: bool, request: &[u8]) -> Result<Accepted, TurnedDown> {
+fn configure_phy_zone<const WIDTH: usize>(
+    phys: &mut [Record],
+    right: bool,
+    request: &[u8],
+) -> Result<Accepted, TurnedDown> {
     turn_down_if(!right, TurnedDown::Failed)?;
     turn_down_if(request.len() < 8 || !length_agrees(request), TurnedDown::InvalidRequestLength)?;
     let k = usize::from(request[7]);
@@ -138,7 +141,7 @@ fn configure_phy_zone(phys: &mut [Record], right: bool, request: &[u8]) -> Resul
     // All descriptors are judged before the first record is changed. The fill is no descriptor.
     let records = phys.get_mut(start..start + k).ok_or(TurnedDown::PhyDoesNotExist)?;
     let descriptors = &request[8..][..2 * k].as_chunks::<2>().0;
-    turn_down_if(!descriptors.iter().all(may_be_written), TurnedDown::Failed)?;
+    turn_down_if(!descriptors.iter().all(may_be_written::<WIDTH>), TurnedDown::Failed)?;
     for (record, &[zoning, group]) in records.iter_mut().zip(descriptors.iter()) {
         record[0] = zoning & 0x1f;
         record[1] = group;
@@ -146,14 +149,16 @@ fn configure_phy_zone(phys: &mut [Record], right: bool, request: &[u8]) -> Resul
     Ok(Accepted { length: HEADER, told: all_ready(phys) })
 }
 
-fn may_be_written(&[zoning, group]: &[u8; 2]) -> bool {
+/// That a group is not in the table comes after all other causes. But the last of those is 02h as well, so one look at
+/// each descriptor is enough. A byte above 127 is in no table.
+fn may_be_written<const WIDTH: usize>(&[zoning, group]: &[u8; 2]) -> bool {
     let participating = zoning & 0x10 != 0;
-    group <= 127 && (!participating || group == 1)
+    usize::from(group) < groups_of_table(WIDTH) && (!participating || group == 1)
 }
 
-fn configure_zone_permission(
+fn configure_zone_permission<const WIDTH: usize>(
     phys: &[Record],
-    rows: &mut [Row; GROUPS],
+    rows: &mut [Row<WIDTH>],
     right: bool,
     request: &[u8],
 ) -> Result<Accepted, TurnedDown> {
@@ -169,28 +174,30 @@ fn configure_zone_permission(
     Ok(Accepted { length: HEADER, told })
 }
 
-fn single(rows: &mut [Row; GROUPS], request: &[u8]) -> Result<(), TurnedDown> {
+fn single<const WIDTH: usize>(rows: &mut [Row<WIDTH>], request: &[u8]) -> Result<(), TurnedDown> {
     turn_down_if(request.len() != 12, TurnedDown::InvalidRequestLength)?;
     let [source, target] = [request[6], request[7]].map(Group::low_7_bits);
     turn_down_if(source.index() < FIRST_NAMED || target.index() < FIRST_NAMED, TurnedDown::Failed)?;
+    turn_down_if(!source.is_in_table(WIDTH) || !target.is_in_table(WIDTH), TurnedDown::Failed)?;
     let new_value = request[7] & 0x80 != 0;
     write_pair(rows, source, target, new_value);
     Ok(())
 }
 
-fn batch(rows: &mut [Row; GROUPS], request: &[u8]) -> Result<(), TurnedDown> {
+fn batch<const WIDTH: usize>(rows: &mut [Row<WIDTH>], request: &[u8]) -> Result<(), TurnedDown> {
     let (start, k) = (usize::from(request[10]), usize::from(request[11]));
-    turn_down_if(request.len() != 12 + ROW * k, TurnedDown::InvalidRequestLength)?;
+    turn_down_if(request.len() != 12 + LARGE * k, TurnedDown::InvalidRequestLength)?;
     turn_down_if(start + k > GROUPS, TurnedDown::IndexDoesNotExist)?;
     turn_down_if(start < FIRST_NAMED && k > 0, TurnedDown::Failed)?;
-    for (r, new) in (start..).zip(request[12..].as_chunks::<ROW>().0) {
+    turn_down_if(start + k > groups_of_table(WIDTH) && k > 0, TurnedDown::Failed)?;
+    for (r, new) in (start..).zip(request[12..].as_chunks().0) {
         write_row(rows, r, new);
     }
     Ok(())
 }
 
-fn report_zone_permission(
-    rows: &[Row; GROUPS],
+fn report_zone_permission<const WIDTH: usize>(
+    rows: &[Row<WIDTH>],
     right: bool,
     request: &[u8],
     response: &mut [u8],
@@ -202,6 +209,6 @@ fn report_zone_permission(
     let r = usize::from(request[7]).min(LARGEST_REPORT).min(GROUPS - start);
     response[HEADER..REPORT_HEADER].copy_from_slice(&[0, 0, start as u8, r as u8, 0, 0, 0, 0]);
     let length = HEADER + 4 * report_length_field(r);
-    response[REPORT_HEADER..length].copy_from_slice(rows[start..start + r].as_flattened());
+    show_rows(rows, start, response[REPORT_HEADER..length].as_chunks_mut().0);
     Ok(Accepted { length, told: 0 })
 }

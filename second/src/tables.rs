@@ -6,11 +6,25 @@ use std::ops::RangeInclusive;
 /// A record of the phy table or of the route table.
 pub type Record = [u8; 12];
 
-/// A row of the permission table.
-pub type Row = [u8; 16];
-
-/// How many groups there are, and so how many rows.
+/// How many groups there are.
 pub const GROUPS: usize = 128;
+
+/// A row of the permission table. Its width in bytes is the profile: a bit for each group that the table has.
+pub type Row<const WIDTH: usize> = [u8; WIDTH];
+
+/// Document 01's permission table has all groups.
+pub const LARGE: usize = 16;
+
+/// The small shelf's has groups 0 to 7.
+pub const SMALL: usize = 1;
+
+/// A row in a request or in a report: that of document 01, whatever the table's width is.
+pub type WireRow = Row<LARGE>;
+
+/// How many groups a table with rows of this width has, from group 0 on; each has a row.
+pub const fn groups_of_table(width: usize) -> usize {
+    8 * width
+}
 
 const PHYS: RangeInclusive<usize> = 1..=128;
 const ROUTES: RangeInclusive<usize> = 0..=1024;
@@ -31,6 +45,11 @@ impl Group {
 
     pub fn index(self) -> usize {
         usize::from(self.0)
+    }
+
+    /// Whether a permission table with rows of this width has the group.
+    pub fn is_in_table(self, width: usize) -> bool {
+        self.index() < groups_of_table(width)
     }
 }
 
@@ -97,18 +116,22 @@ pub fn route_table(routes: &[u8]) -> Result<&[Record], Refusal> {
     records(routes, ROUTES)
 }
 
-pub fn permission_table(permissions: &[u8]) -> Result<&[Row; GROUPS], Refusal> {
+pub fn permission_table<const WIDTH: usize>(permissions: &[u8]) -> Result<&[Row<WIDTH>], Refusal> {
     match permissions.as_chunks() {
-        (rows, []) => rows.try_into().map_err(|_| Refusal::TableSize),
+        (rows, []) if is_table(rows) => Ok(rows),
         _ => Err(Refusal::TableSize),
     }
 }
 
-pub fn permission_table_mut(permissions: &mut [u8]) -> Result<&mut [Row; GROUPS], Refusal> {
+pub fn permission_table_mut<const WIDTH: usize>(permissions: &mut [u8]) -> Result<&mut [Row<WIDTH>], Refusal> {
     match permissions.as_chunks_mut() {
-        (rows, []) => rows.try_into().map_err(|_| Refusal::TableSize),
+        (rows, []) if is_table(rows) => Ok(rows),
         _ => Err(Refusal::TableSize),
     }
+}
+
+fn is_table<const WIDTH: usize>(rows: &[Row<WIDTH>]) -> bool {
+    rows.len() == groups_of_table(WIDTH)
 }
 
 fn records(table: &[u8], sizes: RangeInclusive<usize>) -> Result<&[Record], Refusal> {
@@ -138,8 +161,10 @@ mod tests {
             assert_eq!(phy_table(&table).is_ok(), phys, "{bytes} bytes of phys");
             assert_eq!(route_table(&table).is_ok(), routes, "{bytes} bytes of routes");
         }
-        for (bytes, fits) in [(0, false), (2032, false), (2047, false), (2048, true), (2049, false), (2064, false)] {
-            assert_eq!(permission_table(&vec![0; bytes]).is_ok(), fits, "{bytes} bytes of permissions");
+        for bytes in [0, 7, 8, 9, 16, 128, 256, 2032, 2047, 2048, 2049, 2064] {
+            let table = vec![0; bytes];
+            assert_eq!(permission_table::<LARGE>(&table).is_ok(), bytes == 2048, "{bytes} bytes of permissions");
+            assert_eq!(permission_table::<SMALL>(&table).is_ok(), bytes == 8, "{bytes} bytes on the small shelf");
         }
     }
 

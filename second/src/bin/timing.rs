@@ -221,7 +221,7 @@ macro_rules! pair {
                 $act
             },
             rust: |$lent| {
-                use second::$call;
+                use second::large::$call;
                 $act
             },
         }
@@ -245,11 +245,11 @@ const OPEN: Pair = pair!(lent, open, {
 
 /// Beside the same chains in plain Rust.
 const PRIMITIVE: Pair =
-    Pair { rattle: |lent| tell(lent, library::primitive), rust: |lent| tell(lent, second::chains::primitive) };
+    Pair { rattle: |lent| tell(lent, library::primitive), rust: |lent| tell(lent, second::large::primitive_by_chains) };
 
 /// Beside the model, which reads the rule as it stands: each phy is compared with all that are lower.
 const PRIMITIVE_AS_READ: Pair =
-    Pair { rattle: |lent| tell(lent, library::primitive), rust: |lent| tell(lent, second::primitive) };
+    Pair { rattle: |lent| tell(lent, library::primitive), rust: |lent| tell(lent, second::large::primitive) };
 
 #[inline]
 fn tell(lent: &mut Lent, primitive: impl Fn(&[u8], &[u8], u32, u32, &mut [u8], &mut [u8]) -> Told) -> [u64; 4] {
@@ -285,7 +285,7 @@ const NOWHERE: usize = 0xffff;
 /// A shelf of this size. All phys are ready, and phy 0 is in group 1, which reaches all groups.
 fn shelf(phys: usize, routes: usize) -> Lent {
     let mut permissions = vec![0; 2048];
-    second::start_up(&mut permissions);
+    second::large::start_up(&mut permissions);
     let phy = |i: usize| [&[i as u8 % 16, 1 + (i % 100) as u8, 0b11, 0][..], &address(i)].concat();
     let route = |i: usize| [&address(128 + i)[..], &[(i % phys) as u8, (i % 128) as u8, i as u8 % 16, 0]].concat();
     Lent {

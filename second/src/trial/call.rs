@@ -7,7 +7,7 @@
 //! - an answer: the call's byte; one byte, 0 where the driver found every const buffer and every byte around the buffers
 //!   as before; four fields of 8 bytes (0 where the answer has fewer); then every byte of every buffer that is not const.
 
-use crate::{broadcast_frame, elect, identify, leaving, open, primitive, smp, start_up};
+use crate::large::{broadcast_frame, elect, identify, leaving, open, primitive, smp, start_up};
 
 #[derive(Clone, Debug)]
 pub enum Call {

@@ -5,7 +5,7 @@ use super::ports;
 use crate::permission::may_change_zoning;
 use crate::smp::{CONFIGURE_PHY_ZONE, CONFIGURE_ZONE_PERMISSION, REPORT_ZONE_PERMISSION};
 use crate::speaking::source_group;
-use crate::tables::{permission_table, PhyRecord};
+use crate::tables::{permission_table, PhyRecord, LARGE};
 use std::collections::BTreeMap;
 use std::fmt;
 
@@ -178,7 +178,7 @@ fn answered(call: &Call, answer: &Answer) -> &'static str {
         Call::BroadcastFrame { .. } => "type 3h",
         Call::Smp { phys, permissions, phy, carried, request, .. } => {
             let source = source_group(&record(phys, *phy), *carried as u8);
-            let right = permission_table(permissions).is_ok_and(|rows| may_change_zoning(rows, source));
+            let right = permission_table::<LARGE>(permissions).is_ok_and(|rows| may_change_zoning(rows, source));
             by_function(request, answer, right)
         }
     }

@@ -6,7 +6,7 @@ use super::shelf::{Shelf, BASE};
 use crate::bench::{Event, Rack, BROADCAST_FRAME, IDENTIFY, LEAVING, OPEN, PRIMITIVE, SMP};
 use crate::permission::may_change_zoning;
 use crate::speaking::source_group;
-use crate::tables::{permission_table, PhyRecord};
+use crate::tables::{permission_table, PhyRecord, LARGE};
 
 /// A stream of at most so many events on a rack that they change, most of them good. Most streams leave out an event
 /// after which no phy could ever zone again: in a long one hardly any phy would be permitted any more.
@@ -33,7 +33,7 @@ pub fn stream(random: &mut Random, events: usize) -> Vec<u8> {
 
 /// Whether some phy may change zoning once it is ready: by its own group, or by group 1 carried to it.
 fn may_zone(rack: &Rack) -> bool {
-    let rows = permission_table(&rack.permissions).expect("the rack's size");
+    let rows = permission_table::<LARGE>(&rack.permissions).expect("the rack's size");
     let mut phys = rack.phys.as_chunks().0.iter().map(PhyRecord::from);
     phys.any(|phy| may_change_zoning(rows, source_group(&phy, 1)))
 }

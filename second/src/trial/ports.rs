@@ -6,7 +6,7 @@ use crate::permission::permitted;
 use crate::ports::same_port;
 use crate::smp::{CONFIGURE_PHY_ZONE, CONFIGURE_ZONE_PERMISSION};
 use crate::speaking::source_group;
-use crate::tables::{permission_table, Group, PhyRecord, Record, RouteRecord};
+use crate::tables::{permission_table, Group, PhyRecord, Record, RouteRecord, LARGE};
 
 /// Of a broadcast, whether it arrived as a primitive or as a frame. A wide port is one of several phys.
 pub const BROADCAST: [&str; 12] = [
@@ -78,7 +78,7 @@ impl Shelf<'_> {
     }
 
     fn reaches(&self, source: Group, destination: Group) -> bool {
-        permission_table(self.permissions).is_ok_and(|rows| permitted(rows, source, destination))
+        permission_table::<LARGE>(self.permissions).is_ok_and(|rows| permitted(rows, source, destination))
     }
 
     fn same_port(&self, a: usize, b: usize) -> bool {

@@ -3,10 +3,10 @@
 use super::random::Random;
 use super::requests::{group, group_byte, reserved};
 use crate::bench::Rack;
+use crate::large::start_up;
 use crate::permission::may_change_zoning;
 use crate::speaking::source_group;
-use crate::start_up;
-use crate::tables::{permission_table, PhyRecord, Record};
+use crate::tables::{permission_table, PhyRecord, Record, LARGE};
 use std::iter::repeat_n;
 
 pub struct Shelf {
@@ -67,7 +67,7 @@ impl Shelf {
 
     /// A ready phy and a carried byte, mostly with the right to change zoning.
     pub fn speaker(&self, random: &mut Random) -> (usize, u8) {
-        let rows = permission_table(&self.permissions).expect("a shelf's tables have the right sizes");
+        let rows = permission_table::<LARGE>(&self.permissions).expect("a shelf's tables have the right sizes");
         let want_right = random.percent(85);
         let mut speaker = (0, 0);
         for _ in 0..12 {

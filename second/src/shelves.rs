@@ -1,0 +1,94 @@
+//! The calls of include/shelf.h and of include/small.h: the same rules, each for one width of the permission table's
+//! rows.
+
+use crate::tables::{LARGE, SMALL};
+
+/// All calls of one header. They are made here and not where they are used, so that other crates call what was compiled
+/// together with the rules.
+macro_rules! shelf {
+    ($shelf:ident, $width:ident) => {
+        pub mod $shelf {
+            use super::$width;
+            use crate::{broadcast, chains, open, permission, smp};
+            use crate::{Answered, Opened, Told};
+
+            pub use crate::links::{elect, identify, leaving};
+
+            pub fn start_up(permissions: &mut [u8]) -> u32 {
+                permission::start_up::<$width>(permissions)
+            }
+
+            pub fn open(
+                phys: &[u8],
+                routes: &[u8],
+                permissions: &[u8],
+                phy: u32,
+                frame: &[u8],
+                out: &mut [u8],
+            ) -> Opened {
+                open::open::<$width>(phys, routes, permissions, phy, frame, out)
+            }
+
+            pub fn primitive(
+                phys: &[u8],
+                permissions: &[u8],
+                phy: u32,
+                number: u32,
+                set: &mut [u8],
+                out: &mut [u8],
+            ) -> Told {
+                broadcast::primitive::<$width>(phys, permissions, phy, number, set, out)
+            }
+
+            pub fn broadcast_frame(
+                phys: &[u8],
+                permissions: &[u8],
+                phy: u32,
+                frame: &[u8],
+                set: &mut [u8],
+                out: &mut [u8],
+            ) -> Told {
+                broadcast::broadcast_frame::<$width>(phys, permissions, phy, frame, set, out)
+            }
+
+            pub fn smp(
+                phys: &mut [u8],
+                permissions: &mut [u8],
+                phy: u32,
+                carried: u32,
+                request: &[u8],
+                response: &mut [u8],
+                set: &mut [u8],
+            ) -> Answered {
+                smp::smp::<$width>(phys, permissions, phy, carried, request, response, set)
+            }
+
+            /// Another way to the same answer, for timing only.
+            pub fn primitive_by_chains(
+                phys: &[u8],
+                permissions: &[u8],
+                phy: u32,
+                number: u32,
+                set: &mut [u8],
+                out: &mut [u8],
+            ) -> Told {
+                chains::primitive::<$width>(phys, permissions, phy, number, set, out)
+            }
+
+            /// Another way to the same answer, for timing only.
+            pub fn broadcast_frame_by_chains(
+                phys: &[u8],
+                permissions: &[u8],
+                phy: u32,
+                frame: &[u8],
+                set: &mut [u8],
+                out: &mut [u8],
+            ) -> Told {
+                chains::broadcast_frame::<$width>(phys, permissions, phy, frame, set, out)
+            }
+        }
+    };
+}
+
+shelf!(large, LARGE);
+shelf!(small, SMALL);

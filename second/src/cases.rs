@@ -5,6 +5,7 @@ use crate::large::{broadcast_frame, elect, identify, leaving, open, primitive, s
 use crate::{Answered, Elected, Opened, Told};
 
 mod ports;
+mod small;
 
 const CASE_1: [u8; 12] = [0x40, 0xc1, 0, 2, 0, 0, 0x08, 0x89, 0, 0x81, 0, 0];
 

@@ -1,5 +1,6 @@
 #!/bin/sh
-# Builds a C program over shelf.h for the library's machine, x86-64, whichever machine this is.
+# Builds a C program over shelf.h for the library's machine, x86-64, whichever machine this is. Where the archive is
+# libsmall_c.a, SMALL is defined, and driver.c goes over small.h instead.
 #
 # build.sh ARCHIVE PROGRAM [SOURCE]    SOURCE is driver.c where it is not named
 set -eu
@@ -7,6 +8,10 @@ here=$(cd "$(dirname "$0")" && pwd)
 archive=$1
 program=$2
 source=${3:-$here/driver.c}
+case $archive in
+*libsmall_c.a) profile=-DSMALL ;;
+*) profile=-USMALL ;;
+esac
 
 case $(uname -m) in
 x86_64)
@@ -19,4 +24,4 @@ x86_64)
     ;;
 esac
 # Static, so that another machine needs no x86-64 libraries to run it.
-"$compiler" -std=c11 -O2 -Wall -Wextra -static -I "$here/../../include" "$source" "$archive" -o "$program"
+"$compiler" -std=c11 -O2 -Wall -Wextra -static "$profile" -I "$here/../../include" "$source" "$archive" -o "$program"

@@ -1,8 +1,15 @@
-/* Makes the calls of shelf.h that arrive on standard input and writes each answer to standard output.
+/* Makes the calls of shelf.h, or with SMALL defined those of small.h, that arrive on standard input and writes each answer to
+ * standard output.
  *
  * The protocol, all numbers little-endian, is told in src/trial/call.rs. Buffers lie between guard bytes: a write beside a
  * buffer, or into one that is const, is reported in the answer's second byte. */
+#ifdef SMALL
+#include <small.h>
+#define NAMED(name) small_##name
+#else
 #include <shelf.h>
+#define NAMED(name) shelf_##name
+#endif
 
 #include <stdio.h>
 #include <stdlib.h>
@@ -88,24 +95,24 @@ static int intact(const struct shape *shape, size_t used) {
     return memcmp(arena + from, before + from, used - from) == 0;
 }
 
-static void told(struct shelf_told answer) {
+static void told(struct NAMED(told) answer) {
     field[0] = answer.refusal;
     field[1] = answer.count;
 }
 
-static void elected(struct shelf_elected answer) {
+static void elected(struct NAMED(elected) answer) {
     field[0] = answer.refusal;
     field[1] = answer.priority;
     field[2] = answer.address;
 }
 
-static void opened(struct shelf_opened answer) {
+static void opened(struct NAMED(opened) answer) {
     field[0] = answer.refusal;
     field[1] = answer.outcome;
     field[2] = answer.phy;
 }
 
-static void answered(struct shelf_answered answer) {
+static void answered(struct NAMED(answered) answer) {
     field[0] = answer.refusal;
     field[1] = answer.result;
     field[2] = answer.length;
@@ -115,17 +122,17 @@ static void answered(struct shelf_answered answer) {
 static void make_call(int which) {
     memset(field, 0, sizeof field);
     switch (which) {
-    case 0: field[0] = shelf_start_up(b[0], len[0]); break;
-    case 1: field[0] = shelf_leaving(b[0], len[0], n[0]); break;
-    case 2: field[0] = shelf_identify(b[0], len[0], n[0], b[1], len[1]); break;
-    case 3: elected(shelf_elect(b[0], len[0], b[1], len[1])); break;
-    case 4: opened(shelf_open(b[0], len[0], b[1], len[1], b[2], len[2], n[0], b[3], len[3], b[4], len[4])); break;
-    case 5: told(shelf_primitive(b[0], len[0], b[1], len[1], n[0], n[1], b[2], len[2], b[3], len[3])); break;
+    case 0: field[0] = NAMED(start_up)(b[0], len[0]); break;
+    case 1: field[0] = NAMED(leaving)(b[0], len[0], n[0]); break;
+    case 2: field[0] = NAMED(identify)(b[0], len[0], n[0], b[1], len[1]); break;
+    case 3: elected(NAMED(elect)(b[0], len[0], b[1], len[1])); break;
+    case 4: opened(NAMED(open)(b[0], len[0], b[1], len[1], b[2], len[2], n[0], b[3], len[3], b[4], len[4])); break;
+    case 5: told(NAMED(primitive)(b[0], len[0], b[1], len[1], n[0], n[1], b[2], len[2], b[3], len[3])); break;
     case 6:
-        told(shelf_broadcast_frame(b[0], len[0], b[1], len[1], n[0], b[2], len[2], b[3], len[3], b[4], len[4]));
+        told(NAMED(broadcast_frame)(b[0], len[0], b[1], len[1], n[0], b[2], len[2], b[3], len[3], b[4], len[4]));
         break;
     case 7:
-        answered(shelf_smp(b[0], len[0], b[1], len[1], n[0], n[1], b[2], len[2], b[3], len[3], b[4], len[4]));
+        answered(NAMED(smp)(b[0], len[0], b[1], len[1], n[0], n[1], b[2], len[2], b[3], len[3], b[4], len[4]));
         break;
     }
 }

@@ -38,18 +38,24 @@ bench="second/bench.sh target/bin/bench"
 step 'what each must-fail edit was refused at'
 python3 tests/edits.py target/must-fail
 
-step 'the archive for C'
-archive=target/staticlib/libshelf_c.a
-rt staticlib shelf_c >/dev/null
-tests/archive.sh $archive | tr , '\n' | tests/at_most.sh README.md
-second/driver/build.sh $archive target/stack tests/stack.c
-second/driver/run.sh target/stack | tests/at_most.sh README.md
-second/driver/build.sh $archive target/driver
-second/driver/build.sh $archive target/case examples/case.c
-second/driver/run.sh target/case | diff - examples/case.txt
+step 'the two archives for C'
+# archived SHELF EXAMPLE: the archive of shelf or small, what it takes, its driver, and its example
+archived() {
+    local archive=target/staticlib/lib$1_c.a
+    rt staticlib "$1_c" >/dev/null
+    tests/archive.sh "$archive" | tr , '\n' | sed "s/^ */$1: /" | tests/at_most.sh README.md
+    second/driver/build.sh "$archive" "target/$1_stack" tests/stack.c
+    second/driver/run.sh "target/$1_stack" | tests/at_most.sh README.md
+    second/driver/build.sh "$archive" "target/$1_driver"
+    second/driver/build.sh "$archive" "target/$2" "examples/$2.c"
+    second/driver/run.sh "target/$2" | diff - "examples/$2.txt"
+}
+archived shelf case
+archived small small
 
-step "the library against the second program, $calls calls"
-second/target/release/differ 'second/driver/run.sh target/driver' "$calls"
+step "the library against the second program, $calls calls for each shelf"
+second/target/release/differ large 'second/driver/run.sh target/shelf_driver' "$calls"
+second/target/release/differ small 'second/driver/run.sh target/small_driver' "$calls"
 
 step "the bench program's stored streams are those worked out by hand, and longer ones"
 python3 tests/make_streams.py --check
@@ -59,7 +65,7 @@ step 'the bench program against the second program'
 second/target/release/streams "$bench"
 
 step 'errors planted in the second program are found'
-second/planted.sh "$PWD/second/driver/run.sh $PWD/target/driver"
+second/planted.sh "$PWD/second/driver/run.sh $PWD/target/shelf_driver" "$PWD/second/driver/run.sh $PWD/target/small_driver"
 
 step 'done'
 tail -n 1 "$log"

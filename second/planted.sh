@@ -1,20 +1,29 @@
 #!/bin/sh
 # Plants one error at a time in a copy of the model, and expects differ to find it.
 #
-# planted.sh DRIVER-COMMAND [SEED]
+# planted.sh LARGE-DRIVER SMALL-DRIVER [SEED]    the driver commands over libshelf_c.a and libsmall_c.a
 set -eu
 here=$(cd "$(dirname "$0")" && pwd)
-driver=$1
-seed=${2:-6201}
+large_driver=$1
+small_driver=$2
+seed=${3:-6201}
 calls=300000
 work=$(mktemp -d)
 trap 'rm -rf "$work"' EXIT
 export CARGO_TARGET_DIR="$work/target"
 # What an error leaves unused is no news.
 export RUSTFLAGS='--cap-lints allow'
+# Most of the time goes into the builds, and an error leaves all but a few functions as they were.
+export CARGO_INCREMENTAL=1 CARGO_PROFILE_RELEASE_CODEGEN_UNITS=256 CARGO_PROFILE_RELEASE_OPT_LEVEL=1
 
-# plant NAME FILE OLD NEW: OLD is a basic regular expression that fits in exactly one line of the file.
+large() { plant large "$large_driver" "$@"; }
+small() { plant small "$small_driver" "$@"; }
+
+# plant PROFILE DRIVER NAME FILE OLD NEW: OLD is a basic regular expression that fits in exactly one line of the file.
 plant() {
+    profile=$1
+    driver=$2
+    shift 2
     rm -rf "$work/second"
     mkdir "$work/second"
     cp -r "$here/Cargo.toml" "$here/Cargo.lock" "$here/build.rs" "$here/src" "$work/second/"
@@ -24,54 +33,74 @@ plant() {
     # A copy keeps its time, and cargo goes by the time.
     touch "$file"
     cargo build --quiet --release --offline --bin differ --manifest-path "$work/second/Cargo.toml"
-    if "$work/target/release/differ" "$driver" "$calls" "$seed" >"$work/said"; then
-        echo "$1: NOT FOUND in $calls calls"
+    if "$work/target/release/differ" "$profile" "$driver" "$calls" "$seed" >"$work/said"; then
+        echo "$profile: $1: NOT FOUND in $calls calls"
         missed=1
     elif found=$(grep -E -o -m1 '^call [0-9]+: the two disagree' "$work/said"); then
-        echo "$1: ${found%%:*}, $(grep -o -m1 '^shelf_.*' "$work/said")"
+        echo "$profile: $1: ${found%%:*}, $(sed -n 's/^the call: //p' "$work/said")"
     else
-        echo "$1: differ failed, but not by a disagreement" >&2
+        echo "$profile: $1: differ failed, but not by a disagreement" >&2
         cat "$work/said" >&2
         exit 1
     fi
 }
 
 missed=0
-plant 'rows read and written from the wrong end' permission.rs '(WIDTH - 1 - group \/ 8, group % 8)' \
+large 'rows read and written from the wrong end' permission.rs '(WIDTH - 1 - group \/ 8, group % 8)' \
     '(group \/ 8, group % 8)'
-plant 'the fill of an odd k judged as a descriptor' smp.rs '\[\.\.2 \* k\]' '[..2 * k + fill]'
-plant 'a participating phy speaks for its own group' speaking.rs 'if arriving.participating' 'if false'
-plant 'only one of (a,b) and (b,a) written' permission.rs 'write_one(&mut rows\[b.index()\], a.index(), on);' ''
-plant 'a batch row writes bits 0 and 1' permission.rs 'named & !UNNAMED | old & UNNAMED' 'named'
-plant 'a route to a phy that is not ready' open.rs '&& is_ready(route.phy)' '\&\& usize::from(route.phy) < phys.len()'
-plant 'a route gives its phy the group' open.rs 'phy: usize::from(route.phy), group: route.group' \
+large 'the fill of an odd k judged as a descriptor' smp.rs '\[\.\.2 \* k\]' '[..2 * k + fill]'
+large 'a participating phy speaks for its own group' speaking.rs 'if arriving.participating' 'if false'
+large 'only one of (a,b) and (b,a) written' permission.rs 'write_one(&mut rows\[b.index()\], a.index(), on);' ''
+large 'a batch row writes bits 0 and 1' permission.rs 'named & !UNNAMED | old & UNNAMED' 'named'
+large 'a route to a phy that is not ready' open.rs '&& is_ready(route.phy)' '\&\& usize::from(route.phy) < phys.len()'
+large 'a route gives its phy the group' open.rs 'phy: usize::from(route.phy), group: route.group' \
     'phy: usize::from(route.phy), group: PhyRecord::from(\&phys[usize::from(route.phy)]).group'
-plant 'a known address is not asked for' links.rs 'before.address_known && ' ''
-plant 'carried of 256 and more cut to a byte' smp.rs 'u8::try_from(carried).map_err(|_| Refusal::Kind)?' 'carried as u8'
-plant '93h: start with all 8 bits' smp.rs 'request\[6\] & 0x7f' 'request[6]'
-plant '51h: one row short at the end' smp.rs 'min(GROUPS - start)' 'min(GROUPS - 1 - start)'
-plant 'election: the least wins' links.rs 'address != 0)\.max()' 'address != 0).min()'
-plant 'length checked before readiness' smp.rs 'let arriving = ready' \
+large 'a known address is not asked for' links.rs 'before.address_known && ' ''
+large 'carried of 256 and more cut to a byte' smp.rs 'u8::try_from(carried).map_err(|_| Refusal::Kind)?' 'carried as u8'
+large '93h: start with all 8 bits' smp.rs 'request\[6\] & 0x7f' 'request[6]'
+large '51h: one row short at the end' smp.rs 'min(GROUPS - start)' 'min(GROUPS - 1 - start)'
+large 'election: the least wins' links.rs 'address != 0)\.max()' 'address != 0).min()'
+large 'length checked before readiness' smp.rs 'let arriving = ready' \
     'refuse_if(request.len() < HEADER, Refusal::Length)?; let arriving = ready'
-plant 'ports: zero addresses are one port' ports.rs ' && a.address != 0' ''
-plant 'ports: all but the last byte of an address' ports.rs 'a.address == b.address' 'a.address >> 8 == b.address >> 8'
-plant 'ports: sisters have one group' ports.rs 'a.address == b.address' '(a.address, a.group) == (b.address, b.group)'
-plant 'ports: an address that is not known does not count' ports.rs 'a.ready && b.ready' 'a.address_known \&\& b.address_known'
-plant 'a broadcast: the highest named' broadcast.rs '(0\.\.phy)' '(phy + 1..phys.len())'
-plant 'a broadcast: the lowest ready phy named though not permitted' broadcast.rs 'set | 1 << phy' \
+large 'ports: zero addresses are one port' ports.rs ' && a.address != 0' ''
+large 'ports: all but the last byte of an address' ports.rs 'a.address == b.address' 'a.address >> 8 == b.address >> 8'
+large 'ports: sisters have one group' ports.rs 'a.address == b.address' '(a.address, a.group) == (b.address, b.group)'
+large 'ports: an address that is not known does not count' ports.rs 'a.ready && b.ready' 'a.address_known \&\& b.address_known'
+large 'a broadcast: the highest named' broadcast.rs '(0\.\.phy)' '(phy + 1..phys.len())'
+large 'a broadcast: the lowest ready phy named though not permitted' broadcast.rs 'set | 1 << phy' \
     'set | 1 << (0..phy).find(|\&lower| same_port(phys, lower, phy)).unwrap_or(phy)'
-plant 'a broadcast: none named where the lowest ready phy is not permitted' broadcast.rs \
+large 'a broadcast: none named where the lowest ready phy is not permitted' broadcast.rs \
     '\.filter(is_permitted)\.any(' '.any('
-plant 'a broadcast: a phy that is not ready stands for its port' broadcast.rs \
+large 'a broadcast: a phy that is not ready stands for its port' broadcast.rs \
     '\.filter(is_permitted)\.any(|lower| same_port(phys, lower, phy))' \
     '.any(|lower| phys[lower][4..] == phys[phy][4..] \&\& phys[phy][4..] != [0; 8] \&\& (is_permitted(\&lower) || phys[lower][2] \& 1 == 0))'
-plant 'a broadcast: all permitted phys of a port named' broadcast.rs '!has_lower(phy)' 'true'
-plant "a broadcast: the arriving phy's port told" broadcast.rs '!same_port(phys, arriving, phy)' 'phy != arriving'
-plant 'OPEN: forwarded to a sister' open.rs 'same_port(phys, place, found.phy)' 'place == found.phy'
-plant 'OPEN: a sister counts only in the phy table' open.rs 'same_port(phys, place, found.phy)' \
+large 'a broadcast: all permitted phys of a port named' broadcast.rs '!has_lower(phy)' 'true'
+large "a broadcast: the arriving phy's port told" broadcast.rs '!same_port(phys, arriving, phy)' 'phy != arriving'
+large 'OPEN: forwarded to a sister' open.rs 'same_port(phys, place, found.phy)' 'place == found.phy'
+large 'OPEN: a sister counts only in the phy table' open.rs 'same_port(phys, place, found.phy)' \
     'place == found.phy || arriving.address == destination(frame)'
-plant 'OPEN: ZONE VIOLATION before BAD DESTINATION' open.rs 'same_port(phys, place, found.phy)' \
+large 'OPEN: ZONE VIOLATION before BAD DESTINATION' open.rs 'same_port(phys, place, found.phy)' \
     'same_port(phys, place, found.phy) \&\& permitted(rows, source_group(\&arriving, frame[ZONE_BYTE]), found.group)'
-plant 'a change notice: one phy of each port' smp.rs 'phy_set(phys, |_| true)' \
+large 'a change notice: one phy of each port' smp.rs 'phy_set(phys, |_| true)' \
     'phy_set(phys, |_| true) \& !(0..phys.len()).filter(|\&phy| (0..phy).any(|lower| crate::ports::same_port(phys, lower, phy))).fold(0, |set, phy| set | 1 << phy)'
+small 'groups modulo 8' permission.rs 'match rows.get(a.index()) {' \
+    'let [a, b] = [a, b].map(|group| Group::low_7_bits(group.number() % 8)); match rows.get(a.index()) {'
+small 'groups 8 and 9 reach each other' permission.rs 'a.index() == GROUP_1 || b.index() == GROUP_1' \
+    'a.index() == GROUP_1 || b.index() == GROUP_1 || [a.index().min(b.index()), a.index().max(b.index())] == [8, 9]'
+small 'group 1 does not reach group 8' permission.rs 'a.index() == GROUP_1 ||' 'a.index() == GROUP_1 \&\& b.index() != 8 ||'
+small 'group 8 does not reach group 1' permission.rs '|| b.index() == GROUP_1' '|| b.index() == GROUP_1 \&\& a.index() != 8'
+small "a batch row's bit for group 8 written for group 2" permission.rs 'let new = new.last_chunk()' \
+    'let mut row = *new; row[15] |= (row[14] \& 1) << 2; let new = row.last_chunk()'
+small 'C1h: 02h for a row above 7 before 11h' smp.rs 'turn_down_if(start + k > GROUPS,' \
+    'turn_down_if(start + k > groups_of_table(WIDTH) \&\& k > 0, TurnedDown::Failed)?; turn_down_if(start + k > GROUPS,'
+small 'C1h: a batch of no rows names its start' smp.rs 'turn_down_if(start + k > groups_of_table(WIDTH) && k > 0,' \
+    'turn_down_if(start + k > groups_of_table(WIDTH) || start >= groups_of_table(WIDTH),'
+small 'C1h: a single order above 7 accepted and not written' smp.rs \
+    'turn_down_if(!source.is_in_table(WIDTH) || !target.is_in_table(WIDTH), TurnedDown::Failed)?;' \
+    'if !source.is_in_table(WIDTH) || !target.is_in_table(WIDTH) { return Ok(()); }'
+small '93h: a group above 7 written' smp.rs 'usize::from(group) < groups_of_table(WIDTH)' 'group <= 127'
+small "51h: the table's byte first in its row" permission.rs 'number_of(row).to_be_bytes()' 'number_of(row).to_le_bytes()'
+small '51h: row 1 ends at group 7' permission.rs 'row_1\[\.\.LARGE - WIDTH\]\.fill(0xff);' ''
+small 'a table of 2,048 bytes taken' tables.rs 'rows.len() == groups_of_table(WIDTH)' \
+    'rows.len() == groups_of_table(WIDTH) || rows.len() == 2048'
 exit $missed

@@ -1,19 +1,33 @@
-/* How much stack each call of shelf.h takes: the bytes below its caller's stack pointer that the call writes, the return address
+/* How much stack each call of shelf.h takes, or with SMALL defined each of small.h: the bytes below its caller's stack pointer that the call writes, the return address
  * included, the most over the trials below. One line for a call.
  *
  * A trial runs on a stack of its own, which is painted before; the lowest byte that lost its paint tells how deep it was written.
  * What the caller itself writes there is found by a call of a function that only returns, and taken off. Each trial is made with
  * two paints, since a byte that is written may have the paint's value. x86-64 only, as the archive is. */
+#ifdef SMALL
+#include <small.h>
+#define NAMED(name) small_##name
+#define SHELF "small_"
+enum { GROUPS = 8, ROW = 1 };
+enum { NO_DESTINATION = SMALL_NO_DESTINATION, BAD_DESTINATION = SMALL_BAD_DESTINATION, ZONE_VIOLATION = SMALL_ZONE_VIOLATION, FORWARD = SMALL_FORWARD };
+#else
 #include <shelf.h>
+#define NAMED(name) shelf_##name
+#define SHELF "shelf_"
+enum { GROUPS = 128, ROW = 16 };
+enum { NO_DESTINATION = SHELF_NO_DESTINATION, BAD_DESTINATION = SHELF_BAD_DESTINATION, ZONE_VIOLATION = SHELF_ZONE_VIOLATION, FORWARD = SHELF_FORWARD };
+#endif
 
 #include <stdio.h>
 #include <stdlib.h>
 #include <string.h>
 
-enum { PHYS = 128, ROUTES = 1024, RECORD = 12, GROUPS = 128, ROW = 16, BATCH = 63, STACK = 1 << 16, RETURN_ADDRESS = 8 };
+/* A request's and a report's rows have sixteen bytes each, at most 63 of them; a batch has as many as the table has groups from 2 on. */
+enum { PHYS = 128, ROUTES = 1024, RECORD = 12, REPORT = 63, BATCH = GROUPS - 2 < REPORT ? GROUPS - 2 : REPORT };
+enum { STACK = 1 << 16, RETURN_ADDRESS = 8 };
 
 static uint8_t phys[PHYS * RECORD], routes[ROUTES * RECORD], permissions[GROUPS * ROW];
-static uint8_t address[8], frame[28], out[28], set[16], request[12 + ROW * BATCH], response[1020];
+static uint8_t address[8], frame[28], out[28], set[16], request[12 + 16 * REPORT], response[1020];
 static size_t phys_len, permissions_len, frame_len, request_len;
 static uint32_t phy, number, carried;
 
@@ -29,46 +43,46 @@ static code *volatile callee;
 #define CALLEE(call) ((__typeof__(&call))callee)
 
 static void start_up(void) {
-    refusal = CALLEE(shelf_start_up)(permissions, permissions_len);
+    refusal = CALLEE(NAMED(start_up))(permissions, permissions_len);
 }
 
 static void leaving(void) {
-    refusal = CALLEE(shelf_leaving)(phys, phys_len, phy);
+    refusal = CALLEE(NAMED(leaving))(phys, phys_len, phy);
 }
 
 static void identify(void) {
-    refusal = CALLEE(shelf_identify)(phys, phys_len, phy, address, sizeof address);
+    refusal = CALLEE(NAMED(identify))(phys, phys_len, phy, address, sizeof address);
 }
 
 static void elect(void) {
-    struct shelf_elected answer = CALLEE(shelf_elect)(phys, phys_len, routes, sizeof routes);
+    struct NAMED(elected) answer = CALLEE(NAMED(elect))(phys, phys_len, routes, sizeof routes);
     refusal = answer.refusal;
     done = answer.priority;
 }
 
 static void open(void) {
-    struct shelf_opened answer = CALLEE(shelf_open)(phys, phys_len, routes, sizeof routes, permissions, permissions_len, phy,
+    struct NAMED(opened) answer = CALLEE(NAMED(open))(phys, phys_len, routes, sizeof routes, permissions, permissions_len, phy,
                                                     frame, frame_len, out, sizeof out);
     refusal = answer.refusal;
     done = answer.outcome;
 }
 
 static void primitive(void) {
-    struct shelf_told answer = CALLEE(shelf_primitive)(phys, phys_len, permissions, permissions_len, phy, number, set,
+    struct NAMED(told) answer = CALLEE(NAMED(primitive))(phys, phys_len, permissions, permissions_len, phy, number, set,
                                                        sizeof set, out, sizeof out);
     refusal = answer.refusal;
     done = answer.count;
 }
 
 static void broadcast_frame(void) {
-    struct shelf_told answer = CALLEE(shelf_broadcast_frame)(phys, phys_len, permissions, permissions_len, phy, frame,
+    struct NAMED(told) answer = CALLEE(NAMED(broadcast_frame))(phys, phys_len, permissions, permissions_len, phy, frame,
                                                              frame_len, set, sizeof set, out, sizeof out);
     refusal = answer.refusal;
     done = answer.count;
 }
 
 static void smp(void) {
-    struct shelf_answered answer = CALLEE(shelf_smp)(phys, phys_len, permissions, permissions_len, phy, carried, request,
+    struct NAMED(answered) answer = CALLEE(NAMED(smp))(phys, phys_len, permissions, permissions_len, phy, carried, request,
                                                      request_len, response, sizeof response, set, sizeof set);
     refusal = answer.refusal;
     done = answer.result;
@@ -100,7 +114,7 @@ static void largest_tables(void) {
     }
     phys_len = sizeof phys;
     permissions_len = sizeof permissions;
-    shelf_start_up(permissions, permissions_len);
+    NAMED(start_up)(permissions, permissions_len);
     phy = 0;
     number = 7;
     carried = 1;
@@ -214,20 +228,20 @@ static void descriptors_turned_down(void) {
 }
 
 static void one_order(void) {
-    ask(0xc1, 12, (const uint8_t[6]){8, 0x89, 0, 0x81, 0, 0});
+    ask(0xc1, 12, (const uint8_t[6]){2, 0x83, 0, 0x81, 0, 0});
 }
 
 static void largest_batch(void) {
-    ask(0xc1, sizeof request, (const uint8_t[6]){0, 0, 0, 0x91, GROUPS - BATCH, BATCH});
+    ask(0xc1, 12 + 16 * BATCH, (const uint8_t[6]){0, 0, 0, 0x91, GROUPS - BATCH, BATCH});
 }
 
 static void batch_beyond(void) {
     largest_batch();
-    request[10]++;
+    request[10] = 128;
 }
 
 static void largest_report(void) {
-    ask(0x51, 8, (const uint8_t[6]){0, BATCH});
+    ask(0x51, 8, (const uint8_t[6]){0, REPORT});
 }
 
 static void other_function(void) {
@@ -250,7 +264,7 @@ struct trial {
     uint32_t refusal, done;
 };
 
-#define TRIAL(call, ...) {"shelf_" #call, call, (code *)shelf_##call, __VA_ARGS__}
+#define TRIAL(call, ...) {SHELF #call, call, (code *)NAMED(call), __VA_ARGS__}
 
 static const struct trial trials[] = {
     TRIAL(start_up, as_it_is, 0, 0),
@@ -263,12 +277,12 @@ static const struct trial trials[] = {
     TRIAL(identify, as_it_is, 7, 0),
     TRIAL(elect, as_it_is, 0, 15),
     TRIAL(elect, phys_cut, 1, 0),
-    TRIAL(open, to_last_route, 0, SHELF_FORWARD),
-    TRIAL(open, to_last_phy, 0, SHELF_FORWARD),
-    TRIAL(open, from_unzoned_phy, 0, SHELF_FORWARD),
-    TRIAL(open, from_group_2, 0, SHELF_ZONE_VIOLATION),
-    TRIAL(open, to_itself, 0, SHELF_BAD_DESTINATION),
-    TRIAL(open, to_nobody, 0, SHELF_NO_DESTINATION),
+    TRIAL(open, to_last_route, 0, FORWARD),
+    TRIAL(open, to_last_phy, 0, FORWARD),
+    TRIAL(open, from_unzoned_phy, 0, FORWARD),
+    TRIAL(open, from_group_2, 0, ZONE_VIOLATION),
+    TRIAL(open, to_itself, 0, BAD_DESTINATION),
+    TRIAL(open, to_nobody, 0, NO_DESTINATION),
     TRIAL(open, open_cut, 4, 0),
     TRIAL(primitive, as_it_is, 0, PHYS - 1),
     TRIAL(primitive, none_told, 0, 0),

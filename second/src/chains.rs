@@ -79,26 +79,46 @@ fn told<const WIDTH: usize>(phys: &[Record], rows: &[Row<WIDTH>], arriving: usiz
 #[cfg(test)]
 mod tests {
     use super::*;
-    use crate::tables::LARGE;
-    use crate::trial::call::Call;
+    use crate::tables::{LARGE, SMALL};
+    use crate::trial::call::{Answer, Call};
     use crate::trial::generate::Generator;
+    use crate::trial::profile::Profile;
 
-    #[test]
-    fn says_what_the_model_says() {
-        let mut generator = Generator::new(1);
-        let mut told = 0;
+    /// Where the call is a broadcast.
+    fn by_chains<const WIDTH: usize>(call: Call) -> Option<(Told, Vec<Vec<u8>>)> {
+        match call {
+            Call::Primitive { phys, permissions, phy, number, mut set, mut out } => {
+                let told = primitive::<WIDTH>(&phys, &permissions, phy, number, &mut set, &mut out);
+                Some((told, vec![set, out]))
+            }
+            Call::BroadcastFrame { phys, permissions, phy, frame, mut set, mut out } => {
+                let told = broadcast_frame::<WIDTH>(&phys, &permissions, phy, &frame, &mut set, &mut out);
+                Some((told, vec![set, out]))
+            }
+            _ => None,
+        }
+    }
+
+    fn says_what_the_model_says<const WIDTH: usize>(profile: Profile) {
+        let mut generator = Generator::new(profile, 1);
+        let mut count = 0;
         for _ in 0..60_000 {
             let call = generator.call();
-            let answer = call.model();
+            let answer = call.model(profile);
             generator.keep(&call, &answer);
-            if let Call::Primitive { phys, permissions, phy, number, mut set, mut out } = call {
-                let by_chains = primitive::<LARGE>(&phys, &permissions, phy, number, &mut set, &mut out);
-                assert_eq!([by_chains.refusal, by_chains.count].map(u64::from), answer.fields[..2]);
-                assert_eq!(vec![set, out], answer.buffers);
-                told += u64::from(by_chains.count);
+            if let Some((told, buffers)) = by_chains::<WIDTH>(call) {
+                let fields = [told.refusal.into(), told.count.into(), 0, 0];
+                assert_eq!(Answer { fields, buffers }, answer);
+                count += told.count;
             }
         }
-        assert!(told > 10_000, "{told} told");
+        assert!(count > 10_000, "{count} told");
+    }
+
+    #[test]
+    fn says_what_the_model_says_on_both_shelves() {
+        says_what_the_model_says::<LARGE>(Profile::Large);
+        says_what_the_model_says::<SMALL>(Profile::Small);
     }
 
     /// The addresses that timing makes up to meet in one slot are what they are said to be.

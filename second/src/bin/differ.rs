@@ -1,12 +1,15 @@
 //! The differential test: the library, called through the driver, against the model.
 //!
-//! differ DRIVER-COMMAND [CALLS] [SEED]
+//! differ PROFILE DRIVER-COMMAND [CALLS] [SEED]
+//!
+//! PROFILE is large, for include/shelf.h, or small, for include/small.h.
 //!
 //! Exits with 0 where the two agreed on every field and every byte, and every class of answers was reached.
 
 use second::trial::call::{Answer, Call, FIELDS, SEND_ON};
 use second::trial::coverage::Coverage;
 use second::trial::generate::Generator;
+use second::trial::profile::Profile;
 use std::io::{BufReader, Read, Write};
 use std::process::{Child, ChildStdin, Command, ExitCode, Stdio};
 use std::sync::mpsc::{sync_channel, Receiver, SyncSender};
@@ -21,6 +24,7 @@ const BATCH: u64 = 200;
 const BATCHES: usize = 8;
 
 struct Arguments {
+    profile: Profile,
     command: String,
     calls: u64,
     seed: u64,
@@ -28,23 +32,25 @@ struct Arguments {
 
 fn arguments() -> Option<Arguments> {
     let mut arguments = std::env::args().skip(1);
+    let profile = Profile::named(&arguments.next()?)?;
     let command = arguments.next()?;
     let calls = arguments.next().map_or(Some(DEFAULT_CALLS), |text| text.parse().ok())?;
     let seed = arguments.next().map_or(Some(DEFAULT_SEED), |text| text.parse().ok())?;
-    Some(Arguments { command, calls, seed })
+    Some(Arguments { profile, command, calls, seed })
 }
 
 fn main() -> ExitCode {
     let Some(arguments) = arguments() else {
-        eprintln!("differ DRIVER-COMMAND [CALLS] [SEED]");
+        eprintln!("differ large|small DRIVER-COMMAND [CALLS] [SEED]");
         return ExitCode::from(2);
     };
-    println!("seed {}, {} calls", arguments.seed, arguments.calls);
+    let Arguments { profile, command, calls, seed } = &arguments;
+    println!("{profile} profile, seed {seed}, {calls} calls");
     match run(&arguments) {
         Ok(coverage) => judge(&coverage),
         Err(disagreement) => {
             println!("{disagreement}");
-            println!("again with: differ '{}' {} {}", arguments.command, arguments.calls, arguments.seed);
+            println!("again with: differ {profile} '{command}' {calls} {seed}");
             ExitCode::FAILURE
         }
     }
@@ -70,9 +76,9 @@ fn run(arguments: &Arguments) -> Result<Coverage, String> {
     let stdin = driver.stdin.take().expect("it is piped");
     let stdout = driver.stdout.take().expect("it is piped");
     let (sender, receiver) = sync_channel(BATCHES);
-    let (calls, seed) = (arguments.calls, arguments.seed);
-    let feeder = thread::spawn(move || feed(stdin, &sender, calls, seed));
-    let result = compare_all(&arguments.command, BufReader::with_capacity(1 << 18, stdout), &receiver);
+    let &Arguments { profile, calls, seed, .. } = arguments;
+    let feeder = thread::spawn(move || feed(stdin, &sender, calls, Generator::new(profile, seed)));
+    let result = compare_all(arguments, BufReader::with_capacity(1 << 18, stdout), &receiver);
     // Without its receiver the feeder stops, and without the feeder the driver does.
     drop(receiver);
     feeder.join().map_err(|_| "the feeder broke down".to_string())?;
@@ -100,8 +106,7 @@ fn start(command: &str) -> Result<Child, String> {
 type Batch = Vec<(Call, Answer)>;
 
 /// Makes up calls, asks the model, and passes the calls on to the driver.
-fn feed(mut driver: ChildStdin, sender: &SyncSender<Batch>, calls: u64, seed: u64) {
-    let mut generator = Generator::new(seed);
+fn feed(mut driver: ChildStdin, sender: &SyncSender<Batch>, calls: u64, mut generator: Generator) {
     let mut left = calls;
     let mut bytes = Vec::new();
     while left > 0 {
@@ -121,21 +126,23 @@ fn feed(mut driver: ChildStdin, sender: &SyncSender<Batch>, calls: u64, seed: u6
 fn batch(generator: &mut Generator, size: u64) -> Batch {
     let one = |_| {
         let call = generator.call();
-        let answer = call.model();
+        let answer = call.model(generator.profile());
         generator.keep(&call, &answer);
         (call, answer)
     };
     (0..size).map(one).collect()
 }
 
-fn compare_all(command: &str, mut answers: impl Read, receiver: &Receiver<Batch>) -> Result<Coverage, String> {
-    let mut coverage = Coverage::default();
+fn compare_all(arguments: &Arguments, mut answers: impl Read, receiver: &Receiver<Batch>) -> Result<Coverage, String> {
+    let mut coverage = Coverage::new(arguments.profile);
     let mut number = 0u64;
     for batch in receiver {
         for (place, (call, model)) in batch.iter().enumerate() {
             number += 1;
             compare(&mut answers, call, model).map_err(|disagreement| match disagreement {
-                Disagreement::NoAnswer => format!("call {number}: {}", who_ends_the_driver(command, &batch[place..])),
+                Disagreement::NoAnswer => {
+                    format!("call {number}: {}", who_ends_the_driver(&arguments.command, &batch[place..]))
+                }
                 Disagreement::Told(why) => format!("call {number}: {why}"),
             })?;
             coverage.count(call, model);
@@ -200,7 +207,7 @@ fn fields(head: &[u8]) -> [u64; FIELDS] {
 /// The whole call, to make it again.
 fn told(call: &Call) -> String {
     let parts = call.parts();
-    let mut text = format!("shelf_{}\n", parts.name);
+    let mut text = format!("the call: {}\n", parts.name);
     for (name, number) in parts.numbers {
         text += &format!("  {name} = {number}\n");
     }

@@ -7,7 +7,13 @@
 //! - an answer: the call's byte; one byte, 0 where the driver found every const buffer and every byte around the buffers
 //!   as before; four fields of 8 bytes (0 where the answer has fewer); then every byte of every buffer that is not const.
 
-use crate::large::{broadcast_frame, elect, identify, leaving, open, primitive, smp, start_up};
+use super::profile::Profile;
+use crate::broadcast::{broadcast_frame, primitive};
+use crate::links::{elect, identify, leaving};
+use crate::open::open;
+use crate::permission::start_up;
+use crate::smp::smp;
+use crate::tables::{LARGE, SMALL};
 
 #[derive(Clone, Debug)]
 pub enum Call {
@@ -152,10 +158,17 @@ impl Call {
     }
 
     /// What the model answers, and the buffers that are not const after it.
-    pub fn model(&self) -> Answer {
+    pub fn model(&self, profile: Profile) -> Answer {
+        match profile {
+            Profile::Large => self.answer::<LARGE>(),
+            Profile::Small => self.answer::<SMALL>(),
+        }
+    }
+
+    fn answer<const WIDTH: usize>(&self) -> Answer {
         match self.clone() {
             Call::StartUp { mut permissions } => {
-                let refusal = start_up(&mut permissions);
+                let refusal = start_up::<WIDTH>(&mut permissions);
                 Answer::new(&[refusal.into()], vec![permissions])
             }
             Call::Leaving { mut phys, phy } => {
@@ -171,19 +184,19 @@ impl Call {
                 Answer::new(&[elected.refusal.into(), elected.priority.into(), elected.address], vec![])
             }
             Call::Open { phys, routes, permissions, phy, frame, mut out } => {
-                let opened = open(&phys, &routes, &permissions, phy, &frame, &mut out);
+                let opened = open::<WIDTH>(&phys, &routes, &permissions, phy, &frame, &mut out);
                 Answer::new(&[opened.refusal, opened.outcome, opened.phy].map(u64::from), vec![out])
             }
             Call::Primitive { phys, permissions, phy, number, mut set, mut out } => {
-                let told = primitive(&phys, &permissions, phy, number, &mut set, &mut out);
+                let told = primitive::<WIDTH>(&phys, &permissions, phy, number, &mut set, &mut out);
                 Answer::new(&[told.refusal, told.count].map(u64::from), vec![set, out])
             }
             Call::BroadcastFrame { phys, permissions, phy, frame, mut set, mut out } => {
-                let told = broadcast_frame(&phys, &permissions, phy, &frame, &mut set, &mut out);
+                let told = broadcast_frame::<WIDTH>(&phys, &permissions, phy, &frame, &mut set, &mut out);
                 Answer::new(&[told.refusal, told.count].map(u64::from), vec![set, out])
             }
             Call::Smp { mut phys, mut permissions, phy, carried, request, mut response, mut set } => {
-                let answer = smp(&mut phys, &mut permissions, phy, carried, &request, &mut response, &mut set);
+                let answer = smp::<WIDTH>(&mut phys, &mut permissions, phy, carried, &request, &mut response, &mut set);
                 let fields = [answer.refusal, answer.result, answer.length, answer.count].map(u64::from);
                 Answer::new(&fields, vec![phys, permissions, response, set])
             }

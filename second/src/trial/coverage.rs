@@ -1,16 +1,16 @@
 //! Which classes of answers a run has reached. A run that never reached one of them has shown nothing about it.
 
+use super::arrival::{that_apply, Arrival, Classes};
 use super::call::{Answer, Call, NAMES};
-use super::ports;
-use crate::permission::may_change_zoning;
+use super::profile::Profile;
+use super::{ports, small};
 use crate::smp::{CONFIGURE_PHY_ZONE, CONFIGURE_ZONE_PERMISSION, REPORT_ZONE_PERMISSION};
-use crate::speaking::source_group;
-use crate::tables::{permission_table, PhyRecord, LARGE};
+use crate::tables::{phy_table, route_table, PhyRecord};
 use std::collections::BTreeMap;
 use std::fmt;
 
-/// All classes that a run must reach, by call. Refusal 8 has none: nothing provokes it.
-const REQUIRED: [(&str, &[&str]); 12] = [
+/// All classes that a run must reach on either shelf, by call. Refusal 8 has none: nothing provokes it.
+const REQUIRED: [(&str, &[&str]); 17] = [
     ("start_up", &["written", "refused 1"]),
     ("leaving", &["left", "refused 1", "refused 2", "refused 7"]),
     (
@@ -106,51 +106,92 @@ const REQUIRED: [(&str, &[&str]); 12] = [
     ("primitive", &ports::BROADCAST),
     ("broadcast_frame", &ports::BROADCAST),
     ("smp", &ports::NOTICE),
+    ("start_up", &WRONG_SIZE),
+    ("open", &WRONG_SIZE),
+    ("primitive", &WRONG_SIZE),
+    ("broadcast_frame", &WRONG_SIZE),
+    ("smp", &WRONG_SIZE),
 ];
+
+/// Of refusal 1, where the size of the permission table is its only cause.
+const WRONG_SIZE: [&str; 3] =
+    ["refused 1, the other shelf's permissions", "refused 1, a byte too few", "refused 1, a byte too many"];
 
 /// How many answers were in a class, by the call's place in the header and the class. An answer counts in each of its
 /// classes.
-#[derive(Default)]
-pub struct Coverage(BTreeMap<(usize, &'static str), u64>);
+pub struct Coverage {
+    profile: Profile,
+    answers: BTreeMap<(usize, &'static str), u64>,
+}
 
 impl Coverage {
+    pub fn new(profile: Profile) -> Coverage {
+        Coverage { profile, answers: BTreeMap::new() }
+    }
+
     pub fn count(&mut self, call: &Call, answer: &Answer) {
         let place = usize::from(call.parts().place);
-        for class in classes(call, answer) {
-            *self.0.entry((place, class)).or_default() += 1;
+        for class in classes(self.profile, call, answer) {
+            *self.answers.entry((place, class)).or_default() += 1;
         }
     }
 
     /// The classes that were never reached.
     pub fn missing(&self) -> Vec<String> {
         let place = |name| NAMES.iter().position(|known| *known == name).expect("a call's name");
-        let all = REQUIRED.iter().flat_map(|(name, classes)| classes.iter().map(move |class| (*name, *class)));
-        let missing = all.filter(|&(name, class)| !self.0.contains_key(&(place(name), class)));
+        let of_small = if self.profile == Profile::Small { &small::REQUIRED[..] } else { &[] };
+        let required = REQUIRED.iter().chain(of_small);
+        let all = required.flat_map(|(name, classes)| classes.iter().map(move |class| (*name, *class)));
+        let missing = all.filter(|&(name, class)| !self.answers.contains_key(&(place(name), class)));
         missing.map(|(name, class)| format!("{name}: {class}")).collect()
     }
 }
 
 impl fmt::Display for Coverage {
     fn fmt(&self, f: &mut fmt::Formatter) -> fmt::Result {
-        for ((place, class), count) in &self.0 {
+        for ((place, class), count) in &self.answers {
             writeln!(f, "{:16} {class:47} {count:9}", NAMES[*place])?;
         }
         Ok(())
     }
 }
 
-/// One class by what became of the call, and others by the ports in its answer.
-fn classes(call: &Call, answer: &Answer) -> Vec<&'static str> {
-    let mut classes = vec![class(call, answer)];
-    if answer.refusal() == 0 {
-        classes.extend(ports::classes(call, answer));
+/// One class by what became of the call, and others by the ports and groups in its answer or by the size that was
+/// wrong.
+fn classes(profile: Profile, call: &Call, answer: &Answer) -> Classes {
+    let mut classes = vec![class(profile, call, answer)];
+    match answer.refusal() {
+        0 => classes.extend(Arrival::of(profile, call).iter().flat_map(|arrival| arrived(arrival, call, answer))),
+        1 => classes.extend(wrong_size(profile, call)),
+        _ => {}
     }
     classes
 }
 
-fn class(call: &Call, answer: &Answer) -> &'static str {
+fn arrived(arrival: &Arrival, call: &Call, answer: &Answer) -> Classes {
+    let mut classes = ports::classes(arrival, call, answer);
+    if arrival.profile == Profile::Small {
+        classes.extend(small::classes(arrival, call, answer));
+    }
+    classes
+}
+
+fn wrong_size(profile: Profile, call: &Call) -> Classes {
+    let buffers = call.parts().buffers;
+    let lent = |table| buffers.iter().find(|(name, _)| *name == table).map(|(_, bytes)| *bytes);
+    let others_fit = lent("phys").is_none_or(|phys| phy_table(phys).is_ok())
+        && lent("routes").is_none_or(|routes| route_table(routes).is_ok());
+    let is = |size| others_fit && lent("permissions").is_some_and(|permissions| permissions.len() == size);
+    that_apply(&[
+        ("refused 1, the other shelf's permissions", is(profile.other().table_size())),
+        ("refused 1, a byte too few", is(profile.table_size() - 1)),
+        ("refused 1, a byte too many", is(profile.table_size() + 1)),
+    ])
+}
+
+fn class(profile: Profile, call: &Call, answer: &Answer) -> &'static str {
     match answer.refusal() {
-        0 => answered(call, answer),
+        0 => answered(profile, call, answer),
         5 => refused_5(call),
         number => ["", "refused 1", "refused 2", "refused 3", "refused 4", "", "refused 6", "refused 7", "refused 8"]
             [number as usize],
@@ -164,7 +205,7 @@ fn refused_5(call: &Call) -> &'static str {
     }
 }
 
-fn answered(call: &Call, answer: &Answer) -> &'static str {
+fn answered(profile: Profile, call: &Call, answer: &Answer) -> &'static str {
     let some = answer.fields[1] != 0;
     match call {
         Call::StartUp { .. } => "written",
@@ -176,9 +217,8 @@ fn answered(call: &Call, answer: &Answer) -> &'static str {
         Call::Primitive { .. } => "none told",
         Call::BroadcastFrame { frame, .. } if frame[0] & 0x0f == 2 => "type 2h",
         Call::BroadcastFrame { .. } => "type 3h",
-        Call::Smp { phys, permissions, phy, carried, request, .. } => {
-            let source = source_group(&record(phys, *phy), *carried as u8);
-            let right = permission_table::<LARGE>(permissions).is_ok_and(|rows| may_change_zoning(rows, source));
+        Call::Smp { request, .. } => {
+            let right = Arrival::of(profile, call).is_some_and(|arrival| arrival.may_change_zoning());
             by_function(request, answer, right)
         }
     }
@@ -318,22 +358,24 @@ mod tests {
         }
         permissions[16 * 8 + 14] |= 1 << 1;
         let call = Call::Primitive { phys, permissions, phy: 2, number: 0, set: vec![0; 16], out: vec![0; 28] };
-        let answer = call.model();
+        let answer = call.model(Profile::Large);
         assert_eq!(answer.buffers[0][0], 0x91);
         let expected = ["some told", "one of two permitted sisters told", "told, a lower ready sister not permitted"];
-        assert_eq!(classes(&call, &answer), expected);
+        assert_eq!(classes(Profile::Large, &call, &answer), expected);
     }
 
     #[test]
     fn the_generator_reaches_every_class() {
-        let mut generator = Generator::new(1);
-        let mut coverage = Coverage::default();
-        for _ in 0..30_000 {
-            let call = generator.call();
-            let answer = call.model();
-            generator.keep(&call, &answer);
-            coverage.count(&call, &answer);
+        for profile in Profile::ALL {
+            let mut generator = Generator::new(profile, 1);
+            let mut coverage = Coverage::new(profile);
+            for _ in 0..30_000 {
+                let call = generator.call();
+                let answer = call.model(profile);
+                generator.keep(&call, &answer);
+                coverage.count(&call, &answer);
+            }
+            assert_eq!(coverage.missing(), Vec::<String>::new(), "{profile}");
         }
-        assert_eq!(coverage.missing(), Vec::<String>::new());
     }
 }

@@ -1,12 +1,12 @@
 //! Streams of events for the bench program.
 
+use super::profile::Profile;
 use super::random::Random;
 use super::requests::{broadcast_frame, damage_frame, group_byte, open_frame, request};
 use super::shelf::{Shelf, BASE};
 use crate::bench::{Event, Rack, BROADCAST_FRAME, IDENTIFY, LEAVING, OPEN, PRIMITIVE, SMP};
-use crate::permission::may_change_zoning;
 use crate::speaking::source_group;
-use crate::tables::{permission_table, PhyRecord, LARGE};
+use crate::tables::PhyRecord;
 
 /// A stream of at most so many events on a rack that they change, most of them good. Most streams leave out an event
 /// after which no phy could ever zone again: in a long one hardly any phy would be permitted any more.
@@ -33,9 +33,8 @@ pub fn stream(random: &mut Random, events: usize) -> Vec<u8> {
 
 /// Whether some phy may change zoning once it is ready: by its own group, or by group 1 carried to it.
 fn may_zone(rack: &Rack) -> bool {
-    let rows = permission_table::<LARGE>(&rack.permissions).expect("the rack's size");
     let mut phys = rack.phys.as_chunks().0.iter().map(PhyRecord::from);
-    phys.any(|phy| may_change_zoning(rows, source_group(&phy, 1)))
+    phys.any(|phy| Profile::Large.may_change_zoning(&rack.permissions, source_group(&phy, 1)))
 }
 
 /// Some bytes of the stream become others. Where one was a length, all events after it are others as well.
@@ -51,7 +50,7 @@ fn event(random: &mut Random, shelf: &Shelf) -> (u8, u8, u8, Vec<u8>) {
     let (kind, phy, mut payload) = match random.below(40) {
         0..=14 => {
             let (phy, carried) = shelf.speaker(random);
-            return (SMP, unlikely_phy(random, phy), carried, request(random, shelf.count()));
+            return (SMP, unlikely_phy(random, phy), carried, request(random, shelf.profile, shelf.count()));
         }
         15..=22 => open(random, shelf),
         23..=26 => (PRIMITIVE, ready_phy(random, shelf), vec![primitive_number(random)]),
@@ -64,7 +63,7 @@ fn event(random: &mut Random, shelf: &Shelf) -> (u8, u8, u8, Vec<u8>) {
     if kind == OPEN && random.percent(5) {
         damage_frame(random, &mut payload);
     }
-    (kind, unlikely_phy(random, phy), group_byte(random), payload)
+    (kind, unlikely_phy(random, phy), group_byte(random, shelf.profile), payload)
 }
 
 fn ready_phy(random: &mut Random, shelf: &Shelf) -> usize {
@@ -92,12 +91,12 @@ fn primitive_number(random: &mut Random) -> u8 {
 fn open(random: &mut Random, shelf: &Shelf) -> (u8, usize, Vec<u8>) {
     let phy = ready_phy(random, shelf);
     let destination = if random.percent(15) { shelf.record(phy).address } else { shelf.address(random) };
-    (OPEN, phy, open_frame(random, destination))
+    (OPEN, phy, open_frame(random, shelf.profile, destination))
 }
 
 fn broadcast(random: &mut Random, shelf: &Shelf) -> (u8, usize, Vec<u8>) {
     let phy = shelf.phy(random, |record| record.ready && record.participating);
-    let mut frame = broadcast_frame(random);
+    let mut frame = broadcast_frame(random, shelf.profile);
     if random.percent(15) {
         damage_frame(random, &mut frame);
     }

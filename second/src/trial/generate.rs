@@ -1,6 +1,7 @@
 //! Calls without end: each on a shelf that earlier calls have changed, most of them good, some damaged.
 
 use super::call::{Answer, Call};
+use super::profile::Profile;
 use super::random::Random;
 use super::requests::{broadcast_frame, damage_frame, open_frame, request};
 use super::shelf::Shelf;
@@ -23,16 +24,20 @@ enum Damage {
 }
 
 impl Generator {
-    pub fn new(seed: u64) -> Generator {
+    pub fn new(profile: Profile, seed: u64) -> Generator {
         let mut random = Random::new(seed);
-        let shelf = Shelf::random(&mut random);
+        let shelf = Shelf::random(&mut random, profile);
         Generator { random, shelf, left: 1 }
+    }
+
+    pub fn profile(&self) -> Profile {
+        self.shelf.profile
     }
 
     /// The next call.
     pub fn call(&mut self) -> Call {
         if self.left == 0 {
-            self.shelf = Shelf::random(&mut self.random);
+            self.shelf = Shelf::random(&mut self.random, self.shelf.profile);
             self.left = self.random.between(1, 60);
         }
         self.left -= 1;
@@ -99,7 +104,7 @@ impl Generator {
             0 => self.shelf.record(phy as usize).address,
             _ => self.shelf.address(&mut self.random),
         };
-        let mut frame = open_frame(&mut self.random, destination);
+        let mut frame = open_frame(&mut self.random, self.shelf.profile, destination);
         if self.random.percent(8) {
             damage_frame(&mut self.random, &mut frame);
         }
@@ -126,7 +131,7 @@ impl Generator {
 
     fn broadcast_frame(&mut self) -> Call {
         let phy = self.shelf.phy(&mut self.random, |record| record.ready && record.participating) as u32;
-        let mut frame = broadcast_frame(&mut self.random);
+        let mut frame = broadcast_frame(&mut self.random, self.shelf.profile);
         if self.random.percent(15) {
             damage_frame(&mut self.random, &mut frame);
         }
@@ -142,7 +147,7 @@ impl Generator {
 
     fn smp(&mut self) -> Call {
         let (phy, carried) = self.shelf.speaker(&mut self.random);
-        let request = request(&mut self.random, self.shelf.count());
+        let request = request(&mut self.random, self.shelf.profile, self.shelf.count());
         Call::Smp {
             phys: self.shelf.phys.clone(),
             permissions: self.shelf.permissions.clone(),
@@ -174,14 +179,14 @@ impl Generator {
         for _ in 0..times {
             let all = [Damage::Sizes, Damage::Phy, Damage::Room, Damage::Readiness, Damage::Number];
             let damage = self.random.pick(&all);
-            damage_once(&mut self.random, call, damage);
+            damage_once(&mut self.random, self.shelf.profile, call, damage);
         }
     }
 }
 
-fn damage_once(random: &mut Random, call: &mut Call, damage: Damage) {
+fn damage_once(random: &mut Random, profile: Profile, call: &mut Call, damage: Damage) {
     match damage {
-        Damage::Sizes => damage_size(random, call),
+        Damage::Sizes => damage_size(random, profile, call),
         Damage::Phy => damage_phy(random, call),
         Damage::Room => damage_room(random, call),
         Damage::Readiness => damage_readiness(call),
@@ -189,17 +194,21 @@ fn damage_once(random: &mut Random, call: &mut Call, damage: Damage) {
     }
 }
 
-fn damage_size(random: &mut Random, call: &mut Call) {
+fn damage_size(random: &mut Random, profile: Profile, call: &mut Call) {
+    let permission_sizes = match profile {
+        Profile::Large => PERMISSION_SIZES,
+        Profile::Small => PERMISSION_SIZES_OF_SMALL,
+    };
     let mut tables: Vec<(&mut Vec<u8>, &[usize])> = match call {
-        Call::StartUp { permissions } => vec![(permissions, &PERMISSION_SIZES)],
+        Call::StartUp { permissions } => vec![(permissions, &permission_sizes)],
         Call::Leaving { phys, .. } | Call::Identify { phys, .. } => vec![(phys, &PHY_SIZES)],
         Call::Elect { phys, routes } => vec![(phys, &PHY_SIZES), (routes, &ROUTE_SIZES)],
         Call::Open { phys, routes, permissions, .. } => {
-            vec![(phys, &PHY_SIZES), (routes, &ROUTE_SIZES), (permissions, &PERMISSION_SIZES)]
+            vec![(phys, &PHY_SIZES), (routes, &ROUTE_SIZES), (permissions, &permission_sizes)]
         }
         Call::Primitive { phys, permissions, .. }
         | Call::BroadcastFrame { phys, permissions, .. }
-        | Call::Smp { phys, permissions, .. } => vec![(phys, &PHY_SIZES), (permissions, &PERMISSION_SIZES)],
+        | Call::Smp { phys, permissions, .. } => vec![(phys, &PHY_SIZES), (permissions, &permission_sizes)],
     };
     let which = random.below(tables.len());
     let (table, sizes) = &mut tables[which];
@@ -216,7 +225,8 @@ fn damage_size(random: &mut Random, call: &mut Call) {
 /// Wrong sizes, and right ones at the edge. The last of each is a right one where a size is cut to 16 bits.
 const PHY_SIZES: [usize; 8] = [0, 1, 12, 1535, 1536, 1537, 1548, 65_536 + 1536];
 const ROUTE_SIZES: [usize; 8] = [0, 1, 11, 12, 12_288, 12_289, 12_300, 65_536 + 12_288];
-const PERMISSION_SIZES: [usize; 7] = [0, 16, 2032, 2047, 2049, 2064, 65_536 + 2048];
+const PERMISSION_SIZES: [usize; 8] = [0, 8, 16, 2032, 2047, 2049, 2064, 65_536 + 2048];
+const PERMISSION_SIZES_OF_SMALL: [usize; 8] = [0, 7, 9, 16, 256, 264, 2048, 65_536 + 8];
 
 fn damage_phy(random: &mut Random, call: &mut Call) {
     let (phys, phy) = match call {

@@ -1,10 +1,13 @@
 //! Trying the library against the model: calls, where they come from, and which classes of answers they reach.
 
+pub mod arrival;
 pub mod call;
 pub mod coverage;
 pub mod events;
 pub mod generate;
 pub mod ports;
+pub mod profile;
 pub mod random;
 pub mod requests;
 pub mod shelf;
+pub mod small;

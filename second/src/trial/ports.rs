@@ -1,12 +1,10 @@
 //! Classes of answers by the ports of the phys in them. An answer may be in several of these classes, or in none.
 
+use super::arrival::{is_in, that_apply, Arrival, Classes};
 use super::call::{Answer, Call};
 use crate::open::{search, Found};
-use crate::permission::permitted;
-use crate::ports::same_port;
 use crate::smp::{CONFIGURE_PHY_ZONE, CONFIGURE_ZONE_PERMISSION};
-use crate::speaking::source_group;
-use crate::tables::{permission_table, Group, PhyRecord, Record, RouteRecord, LARGE};
+use crate::tables::{PhyRecord, Record, RouteRecord};
 
 /// Of a broadcast, whether it arrived as a primitive or as a frame. A wide port is one of several phys.
 pub const BROADCAST: [&str; 12] = [
@@ -36,75 +34,21 @@ pub const OPEN: [&str; 5] = [
 /// Of a change notice.
 pub const NOTICE: [&str; 2] = ["93h 00h sisters told", "C1h 00h sisters told"];
 
-type Classes = Vec<&'static str>;
-
 /// The classes of an answer that is no refusal.
-pub fn classes(call: &Call, answer: &Answer) -> Classes {
+pub fn classes(arrival: &Arrival, call: &Call, answer: &Answer) -> Classes {
     match call {
-        Call::Open { phys, routes, permissions, phy, frame, .. } => {
-            opened(&Shelf::new(phys, permissions, *phy), routes.as_chunks().0, frame, answer)
-        }
-        Call::Primitive { phys, permissions, phy, .. } => {
-            let shelf = Shelf::new(phys, permissions, *phy);
-            let source = shelf.record(shelf.arriving).group;
-            told(&shelf, source, &answer.buffers[0])
-        }
-        Call::BroadcastFrame { phys, permissions, phy, frame, .. } => {
-            let shelf = Shelf::new(phys, permissions, *phy);
-            let source = source_group(&shelf.record(shelf.arriving), frame[3]);
-            told(&shelf, source, &answer.buffers[0])
-        }
-        Call::Smp { phys, permissions, phy, request, .. } => {
-            noticed(&Shelf::new(phys, permissions, *phy), request[1], &answer.buffers[3])
-        }
+        Call::Open { routes, frame, .. } => opened(arrival, routes.as_chunks().0, frame, answer),
+        Call::Primitive { .. } | Call::BroadcastFrame { .. } => told(arrival, &answer.buffers[0]),
+        Call::Smp { request, .. } => noticed(arrival, request[1], &answer.buffers[3]),
         _ => Vec::new(),
     }
 }
 
-/// The tables where something arrives. They have the right sizes, as the call was not refused.
-struct Shelf<'a> {
-    phys: &'a [Record],
-    permissions: &'a [u8],
-    arriving: usize,
-}
-
-impl Shelf<'_> {
-    fn new<'a>(phys: &'a [u8], permissions: &'a [u8], arriving: u32) -> Shelf<'a> {
-        Shelf { phys: phys.as_chunks().0, permissions, arriving: arriving as usize }
-    }
-
-    fn record(&self, phy: usize) -> PhyRecord {
-        PhyRecord::from(&self.phys[phy])
-    }
-
-    fn reaches(&self, source: Group, destination: Group) -> bool {
-        permission_table::<LARGE>(self.permissions).is_ok_and(|rows| permitted(rows, source, destination))
-    }
-
-    fn same_port(&self, a: usize, b: usize) -> bool {
-        same_port(self.phys, a, b)
-    }
-
-    /// The other phys of a phy's port.
-    fn sisters(&self, phy: usize) -> Vec<usize> {
-        (0..self.phys.len()).filter(|&other| other != phy && self.same_port(other, phy)).collect()
-    }
-}
-
-fn is_in(set: &[u8], phy: usize) -> bool {
-    set[phy / 8] >> (phy % 8) & 1 == 1
-}
-
-/// Those classes of which it is said that they apply.
-fn that_apply(said: &[(&'static str, bool)]) -> Classes {
-    said.iter().filter(|(_, applies)| *applies).map(|(class, _)| *class).collect()
-}
-
-fn told(shelf: &Shelf, source: Group, set: &[u8]) -> Classes {
-    let all = 0..shelf.phys.len();
-    let records: Vec<PhyRecord> = all.clone().map(|phy| shelf.record(phy)).collect();
-    let sisters: Vec<Vec<usize>> = all.clone().map(|phy| shelf.sisters(phy)).collect();
-    let permitted: Vec<bool> = records.iter().map(|phy| phy.ready && shelf.reaches(source, phy.group)).collect();
+fn told(arrival: &Arrival, set: &[u8]) -> Classes {
+    let all = 0..arrival.phys.len();
+    let records: Vec<PhyRecord> = all.clone().map(|phy| arrival.record(phy)).collect();
+    let sisters: Vec<Vec<usize>> = all.clone().map(|phy| arrival.sisters(phy)).collect();
+    let permitted: Vec<bool> = records.iter().map(|phy| phy.ready && arrival.reaches(phy.group)).collect();
     let permitted_sisters: Vec<Vec<usize>> =
         sisters.iter().map(|sisters| sisters.iter().copied().filter(|&phy| permitted[phy]).collect()).collect();
     let told: Vec<usize> = all.clone().filter(|&phy| is_in(set, phy)).collect();
@@ -118,7 +62,7 @@ fn told(shelf: &Shelf, source: Group, set: &[u8]) -> Classes {
         address != 0 && records[..phy].iter().any(|lower| !lower.ready && lower.address == address)
     };
     let unreached = |phy: usize| !sisters[phy].is_empty() && !permitted[phy] && permitted_sisters[phy].is_empty();
-    let of_arriving = &permitted_sisters[shelf.arriving];
+    let of_arriving = &permitted_sisters[arrival.phy];
     let zero_told = told.iter().filter(|&&phy| records[phy].address == 0).count();
     that_apply(&[
         ("one of two permitted sisters told", one_of(|many| many == 2)),
@@ -128,36 +72,35 @@ fn told(shelf: &Shelf, source: Group, set: &[u8]) -> Classes {
         ("told, a lower ready sister not permitted", told.iter().any(past_unpermitted)),
         ("told, a lower phy with its address not ready", told.iter().any(past_unready)),
         ("a wide port, no phy of it permitted", all.clone().any(unreached)),
-        ("arriving phy's lower sister permitted", of_arriving.iter().any(|&sister| sister < shelf.arriving)),
-        ("arriving phy's higher sister permitted", of_arriving.iter().any(|&sister| sister > shelf.arriving)),
+        ("arriving phy's lower sister permitted", of_arriving.iter().any(|&sister| sister < arrival.phy)),
+        ("arriving phy's higher sister permitted", of_arriving.iter().any(|&sister| sister > arrival.phy)),
         ("none told, but sisters permitted", told.is_empty() && !of_arriving.is_empty()),
         ("two with address zero told", zero_told >= 2),
-        ("from address zero to address zero", zero_told >= 1 && records[shelf.arriving].address == 0),
+        ("from address zero to address zero", zero_told >= 1 && records[arrival.phy].address == 0),
     ])
 }
 
-fn opened(shelf: &Shelf, routes: &[Record], frame: &[u8], answer: &Answer) -> Classes {
-    let Some(found) = found(shelf.phys, routes, frame) else {
+fn opened(arrival: &Arrival, routes: &[Record], frame: &[u8], answer: &Answer) -> Classes {
+    let Some(found) = found(arrival.phys, routes, frame) else {
         return Vec::new();
     };
     let (bad, forward) = (answer.fields[1] == 2, answer.fields[1] == 4);
-    let [arriving, towards] = [shelf.arriving, found.phy].map(|phy| shelf.record(phy));
-    let sister_not_permitted =
-        found.phy != shelf.arriving && !shelf.reaches(source_group(&arriving, frame[20]), found.group);
+    let [arriving, towards] = [arrival.phy, found.phy].map(|phy| arrival.record(phy));
+    let sister_not_permitted = found.phy != arrival.phy && !arrival.reaches(found.group);
     let leads_elsewhere = |route: RouteRecord| {
         let (address, phy) = (route.address.to_be_bytes(), usize::from(route.phy));
-        let is_ready = phy < shelf.phys.len() && shelf.record(phy).ready;
-        address == frame[4..12] && is_ready && !shelf.same_port(phy, shelf.arriving)
+        let is_ready = phy < arrival.phys.len() && arrival.record(phy).ready;
+        address == frame[4..12] && is_ready && !arrival.same_port(phy, arrival.phy)
     };
     let by_route = towards.address.to_be_bytes() != frame[4..12];
-    let is_wide = |phy| !shelf.sisters(phy).is_empty();
+    let is_wide = |phy| !arrival.sisters(phy).is_empty();
     that_apply(&[
         ("BAD DESTINATION, sister not permitted", bad && sister_not_permitted),
         (
             "BAD DESTINATION, a later route leads elsewhere",
             bad && by_route && routes.iter().map(RouteRecord::from).any(leads_elsewhere),
         ),
-        ("FORWARD from a wide port", forward && is_wide(shelf.arriving)),
+        ("FORWARD from a wide port", forward && is_wide(arrival.phy)),
         ("FORWARD to a wide port", forward && is_wide(found.phy)),
         ("FORWARD between zero addresses", forward && arriving.address == 0 && towards.address == 0),
     ])
@@ -168,9 +111,9 @@ pub fn found(phys: &[Record], routes: &[Record], frame: &[u8]) -> Option<Found> 
     search(phys, routes, u64::from_be_bytes(frame[4..12].try_into().expect("8 bytes")))
 }
 
-fn noticed(shelf: &Shelf, function: u8, set: &[u8]) -> Classes {
-    let has_told_sister = |phy: usize| shelf.sisters(phy).iter().any(|&sister| is_in(set, sister));
-    let sisters_told = (0..shelf.phys.len()).any(|phy| is_in(set, phy) && has_told_sister(phy));
+fn noticed(arrival: &Arrival, function: u8, set: &[u8]) -> Classes {
+    let has_told_sister = |phy: usize| arrival.sisters(phy).iter().any(|&sister| is_in(set, sister));
+    let sisters_told = (0..arrival.phys.len()).any(|phy| is_in(set, phy) && has_told_sister(phy));
     that_apply(&[
         ("93h 00h sisters told", function == CONFIGURE_PHY_ZONE && sisters_told),
         ("C1h 00h sisters told", function == CONFIGURE_ZONE_PERMISSION && sisters_told),

@@ -1,25 +1,33 @@
 //! SMP requests and frames: mostly right, sometimes damaged in one place.
 
+use super::profile::Profile;
 use super::random::Random;
+use crate::permission::FIRST_NAMED;
 use crate::smp::{CONFIGURE_PHY_ZONE, CONFIGURE_ZONE_PERMISSION, REPORT_ZONE_PERMISSION, REQUEST_TYPE};
 
 /// Groups at the edges, and a few that meet often.
-pub const GROUPS: [u8; 12] = [0, 1, 1, 2, 3, 7, 8, 8, 9, 64, 126, 127];
+const GROUPS: [u8; 12] = [0, 1, 1, 2, 3, 7, 8, 8, 9, 64, 126, 127];
+
+/// The same for a table of groups 0 to 7. Modulo 8 those from 8 to 10 are groups 0 to 2.
+const GROUPS_OF_SMALL: [u8; 16] = [0, 1, 1, 1, 2, 2, 3, 5, 6, 7, 7, 8, 8, 9, 10, 127];
 
 /// Numbers that a length, a start or a count may be off to.
 const EDGES: [u8; 14] = [0, 1, 2, 7, 62, 63, 64, 65, 126, 127, 128, 129, 254, 255];
 
-pub fn group(random: &mut Random) -> u8 {
+pub fn group(random: &mut Random, profile: Profile) -> u8 {
     if random.percent(85) {
-        random.pick(&GROUPS)
+        match profile {
+            Profile::Large => random.pick(&GROUPS),
+            Profile::Small => random.pick(&GROUPS_OF_SMALL),
+        }
     } else {
         random.byte() & 0x7f
     }
 }
 
 /// A group byte, its highest bit sometimes on.
-pub fn group_byte(random: &mut Random) -> u8 {
-    group(random) | if random.percent(15) { 0x80 } else { 0 }
+pub fn group_byte(random: &mut Random, profile: Profile) -> u8 {
+    group(random, profile) | if random.percent(15) { 0x80 } else { 0 }
 }
 
 /// Reserved bits: mostly zero, sometimes anything.
@@ -36,11 +44,11 @@ fn header(random: &mut Random, function: u8, length: usize) -> Vec<u8> {
 }
 
 /// A request of any function for a shelf with this many phys.
-pub fn request(random: &mut Random, phys: usize) -> Vec<u8> {
+pub fn request(random: &mut Random, profile: Profile, phys: usize) -> Vec<u8> {
     let mut request = match random.below(20) {
-        0..=5 => configure_phy_zone(random, phys),
-        6..=10 => single(random),
-        11..=14 => batch(random),
+        0..=5 => configure_phy_zone(random, profile, phys),
+        6..=10 => single(random, profile),
+        11..=14 => batch(random, profile),
         15..=17 => report(random),
         _ => other_function(random),
     };
@@ -50,7 +58,7 @@ pub fn request(random: &mut Random, phys: usize) -> Vec<u8> {
     request
 }
 
-pub fn configure_phy_zone(random: &mut Random, phys: usize) -> Vec<u8> {
+pub fn configure_phy_zone(random: &mut Random, profile: Profile, phys: usize) -> Vec<u8> {
     let start = random.between(0, phys.min(127));
     let left = phys - start;
     let k = match random.below(10) {
@@ -64,28 +72,41 @@ pub fn configure_phy_zone(random: &mut Random, phys: usize) -> Vec<u8> {
     let mut request = header(random, CONFIGURE_PHY_ZONE, 1 + k.div_ceil(2));
     request.push(start as u8 | reserved(random) & 0x80);
     request.push(k as u8);
+    let all_in_table = random.percent(60);
     for _ in 0..k {
-        request.extend(descriptor(random));
+        request.extend(descriptor(random, profile, all_in_table));
     }
     if k % 2 == 1 {
         request.extend([reserved(random), reserved(random)]);
     }
-    if k > 0 && random.percent(12) {
+    if k > 0 && random.percent(16) {
         let at = 8 + 2 * random.below(k);
-        let bad = random.pick(&[[0x00, 0x80], [0x10, 0x00], [0x1f, 0x02], [0x00, 0xff], [0x10, 0x81], [0x10, 0x7f]]);
-        request[at..at + 2].copy_from_slice(&bad);
+        request[at..at + 2].copy_from_slice(&random.pick(&TURNED_DOWN));
     }
     request
 }
 
-fn descriptor(random: &mut Random) -> [u8; 2] {
+/// Descriptors that are answered 02h; the last three only on the small shelf.
+const TURNED_DOWN: [[u8; 2]; 9] = [
+    [0x00, 0x80],
+    [0x10, 0x00],
+    [0x1f, 0x02],
+    [0x00, 0xff],
+    [0x10, 0x81],
+    [0x10, 0x7f],
+    [0x00, 0x08],
+    [0x0f, 0x09],
+    [0x00, 0x7f],
+];
+
+fn descriptor(random: &mut Random, profile: Profile, in_table: bool) -> [u8; 2] {
     let noise = reserved(random) & 0xe0;
     let priority = random.byte() & 0x0f;
     if random.percent(30) {
-        [noise | 0x10 | priority, 1]
-    } else {
-        [noise | priority, group(random)]
+        return [noise | 0x10 | priority, 1];
     }
+    let group = group(random, profile);
+    [noise | priority, if in_table { group % profile.groups_of_table() as u8 } else { group }]
 }
 
 /// Byte 9: the operation, UPDATE COMPLETE and the bits between.
@@ -93,9 +114,10 @@ fn operation(random: &mut Random, operation: u8) -> u8 {
     operation << 4 | random.byte() & 0x01 | reserved(random) & 0x0e
 }
 
-pub fn single(random: &mut Random) -> Vec<u8> {
+pub fn single(random: &mut Random, profile: Profile) -> Vec<u8> {
     let mut request = header(random, CONFIGURE_ZONE_PERMISSION, 2);
-    let [source, target] = [0, 1].map(|_| if random.percent(80) { named_group(random) } else { group(random) });
+    let lowest = |random: &mut Random| if random.percent(80) { FIRST_NAMED as u8 } else { 0 };
+    let [source, target] = [0, 1].map(|_| lowest(random).max(group(random, profile)));
     request.push(source | reserved(random) & 0x80);
     request.push(target | random.byte() & 0x80);
     request.push(reserved(random));
@@ -104,11 +126,22 @@ pub fn single(random: &mut Random) -> Vec<u8> {
     request
 }
 
-fn named_group(random: &mut Random) -> u8 {
-    group(random).max(2)
+pub fn batch(random: &mut Random, profile: Profile) -> Vec<u8> {
+    let (start, k) = match profile {
+        Profile::Small if random.percent(85) => rows_of_small(random),
+        _ => rows(random),
+    };
+    let mut request = header(random, CONFIGURE_ZONE_PERMISSION, 2 + 4 * k);
+    request.extend([reserved(random), reserved(random), reserved(random), operation(random, 9)]);
+    request.extend([start as u8, k as u8]);
+    for _ in 0..k {
+        request.extend(row(random, profile));
+    }
+    request
 }
 
-pub fn batch(random: &mut Random) -> Vec<u8> {
+/// A start and a count of rows.
+fn rows(random: &mut Random) -> (usize, usize) {
     let k = match random.below(12) {
         0 => 0,
         1 => 63,
@@ -123,16 +156,23 @@ pub fn batch(random: &mut Random) -> Vec<u8> {
         3 => usize::from(random.pick(&EDGES)),
         _ => random.between(2, 128 - k),
     };
-    let mut request = header(random, CONFIGURE_ZONE_PERMISSION, 2 + 4 * k);
-    request.extend([reserved(random), reserved(random), reserved(random), operation(random, 9)]);
-    request.extend([start as u8, k as u8]);
-    for _ in 0..k {
-        request.extend(row(random));
-    }
-    request
+    (start, k)
 }
 
-fn row(random: &mut Random) -> [u8; 16] {
+/// The same for a table of groups 0 to 7: mostly up to its last row or a little beyond.
+fn rows_of_small(random: &mut Random) -> (usize, usize) {
+    match random.below(10) {
+        0 => (random.pick(&[6, 7, 8, 9, 127, 128, 129, 255]), 0),
+        1 => (random.between(8, 131), random.between(1, 3)),
+        _ => {
+            let last = random.pick(&[4, 6, 7, 7, 7, 7, 8, 8, 9]);
+            let k = random.between(1, last.min(8));
+            (last + 1 - k, k)
+        }
+    }
+}
+
+fn row(random: &mut Random, profile: Profile) -> [u8; 16] {
     let mut number = match random.below(6) {
         0 => 0,
         1 => u128::MAX,
@@ -140,7 +180,7 @@ fn row(random: &mut Random) -> [u8; 16] {
         _ => 0,
     };
     for _ in 0..random.below(5) {
-        number ^= 1 << group(random);
+        number ^= 1 << group(random, profile);
     }
     number.to_be_bytes()
 }
@@ -206,20 +246,20 @@ fn replace(request: &mut [u8], at: usize, to: u8) {
 }
 
 /// An OPEN frame of the right length and type; all but destination and byte 20 is anything.
-pub fn open_frame(random: &mut Random, destination: u64) -> Vec<u8> {
+pub fn open_frame(random: &mut Random, profile: Profile, destination: u64) -> Vec<u8> {
     let mut frame = random.bytes(28);
     frame[0] = frame[0] & 0xf0 | 0x1;
     frame[4..12].copy_from_slice(&destination.to_be_bytes());
-    frame[20] = group(random) | random.byte() & 0x80;
+    frame[20] = group(random, profile) | random.byte() & 0x80;
     frame
 }
 
 /// A broadcast frame of type 2h or 3h with the length for it.
-pub fn broadcast_frame(random: &mut Random) -> Vec<u8> {
+pub fn broadcast_frame(random: &mut Random, profile: Profile) -> Vec<u8> {
     let (kind, length) = random.pick(&[(0x2, 28), (0x3, 4)]);
     let mut frame = random.bytes(length);
     frame[0] = frame[0] & 0xf0 | kind;
-    frame[3] = group_byte(random);
+    frame[3] = group_byte(random, profile);
     frame
 }
 

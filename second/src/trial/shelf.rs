@@ -1,15 +1,15 @@
 //! Tables of the right sizes with any contents: a shelf on which calls follow one another.
 
+use super::profile::Profile;
 use super::random::Random;
 use super::requests::{group, group_byte, reserved};
 use crate::bench::Rack;
-use crate::large::start_up;
-use crate::permission::may_change_zoning;
 use crate::speaking::source_group;
-use crate::tables::{permission_table, PhyRecord, Record, LARGE};
+use crate::tables::{PhyRecord, Record};
 use std::iter::repeat_n;
 
 pub struct Shelf {
+    pub profile: Profile,
     pub phys: Vec<u8>,
     pub routes: Vec<u8>,
     pub permissions: Vec<u8>,
@@ -18,17 +18,17 @@ pub struct Shelf {
 }
 
 impl Shelf {
-    pub fn random(random: &mut Random) -> Shelf {
+    pub fn random(random: &mut Random, profile: Profile) -> Shelf {
         let addresses = addresses(random);
-        let phys = if random.percent(10) { Rack::default().phys } else { phys(random, &addresses) };
-        let routes = routes(random, &addresses, phys.len() / 12);
-        Shelf { phys, routes, permissions: permissions(random), addresses }
+        let phys = if random.percent(10) { Rack::default().phys } else { phys(random, profile, &addresses) };
+        let routes = routes(random, profile, &addresses, phys.len() / 12);
+        Shelf { profile, phys, routes, permissions: permissions(random, profile), addresses }
     }
 
     /// The bench rack, without routes.
     pub fn bench(random: &mut Random) -> Shelf {
         let Rack { phys, permissions } = Rack::default();
-        Shelf { phys, routes: Vec::new(), permissions, addresses: addresses(random) }
+        Shelf { profile: Profile::Large, phys, routes: Vec::new(), permissions, addresses: addresses(random) }
     }
 
     pub fn count(&self) -> usize {
@@ -67,14 +67,14 @@ impl Shelf {
 
     /// A ready phy and a carried byte, mostly with the right to change zoning.
     pub fn speaker(&self, random: &mut Random) -> (usize, u8) {
-        let rows = permission_table::<LARGE>(&self.permissions).expect("a shelf's tables have the right sizes");
         let want_right = random.percent(85);
         let mut speaker = (0, 0);
         for _ in 0..12 {
-            let carried = group_byte(random);
+            let carried = group_byte(random, self.profile);
             let phy = self.phy(random, |record| record.ready);
             speaker = (phy, carried);
-            if !want_right || may_change_zoning(rows, source_group(&self.record(phy), carried)) {
+            let source = source_group(&self.record(phy), carried);
+            if !want_right || self.profile.may_change_zoning(&self.permissions, source) {
                 break;
             }
         }
@@ -102,7 +102,7 @@ fn addresses(random: &mut Random) -> Vec<u64> {
     addresses
 }
 
-fn phys(random: &mut Random, addresses: &[u64]) -> Vec<u8> {
+fn phys(random: &mut Random, profile: Profile, addresses: &[u64]) -> Vec<u8> {
     let count = match random.below(10) {
         0 => 1,
         1 => 2,
@@ -119,7 +119,7 @@ fn phys(random: &mut Random, addresses: &[u64]) -> Vec<u8> {
     for (phy, &address) in attached.iter().enumerate() {
         match attached[..phy].iter().rposition(|&other| other == address) {
             Some(before) if random.percent(alike) => table.extend_from_within(12 * before..12 * before + 2),
-            _ => table.extend(zoning(random, participating)),
+            _ => table.extend(zoning(random, profile, participating)),
         }
         table.push(u8::from(random.percent(ready)) | u8::from(random.percent(80)) << 1 | reserved(random) & 0xfc);
         table.push(if random.percent(90) { 0 } else { random.byte() });
@@ -162,13 +162,13 @@ fn wide_ports(random: &mut Random, addresses: &[u64], count: usize) -> Vec<u64> 
 }
 
 /// Bytes 0 and 1 of a phy record.
-fn zoning(random: &mut Random, participating: usize) -> [u8; 2] {
+fn zoning(random: &mut Random, profile: Profile, participating: usize) -> [u8; 2] {
     let bit = u8::from(random.percent(participating)) << 4;
     let priority = if random.percent(50) { 0 } else { random.byte() & 0x0f };
-    [bit | priority | reserved(random) & 0xe0, group_byte(random)]
+    [bit | priority | reserved(random) & 0xe0, group_byte(random, profile)]
 }
 
-fn routes(random: &mut Random, addresses: &[u64], phys: usize) -> Vec<u8> {
+fn routes(random: &mut Random, profile: Profile, addresses: &[u64], phys: usize) -> Vec<u8> {
     let count = match random.below(40) {
         0 => 1024,
         1 => random.between(1000, 1024),
@@ -186,7 +186,7 @@ fn routes(random: &mut Random, addresses: &[u64], phys: usize) -> Vec<u8> {
         let address = if random.percent(10) { random.number() } else { random.pick(addresses) };
         table.extend(address.to_be_bytes());
         table.push(phy);
-        table.push(group_byte(random));
+        table.push(group_byte(random, profile));
         table.push(random.byte() & 0x0f | reserved(random) & 0xf0);
         table.push(if random.percent(90) { 0 } else { random.byte() });
     }
@@ -194,19 +194,19 @@ fn routes(random: &mut Random, addresses: &[u64], phys: usize) -> Vec<u8> {
 }
 
 /// Permissions: as at start-up, with more pairs switched on, or any bytes.
-fn permissions(random: &mut Random) -> Vec<u8> {
-    let mut table = vec![0; 2048];
-    start_up(&mut table);
+fn permissions(random: &mut Random, profile: Profile) -> Vec<u8> {
+    let mut table = profile.fresh_table();
     match random.below(10) {
         0..=3 => {}
         4..=6 => {
+            let (width, groups) = (profile.width(), profile.groups_of_table());
             for _ in 0..random.between(1, 200) {
-                let [a, b] = [0, 1].map(|_| usize::from(group(random)));
-                table[16 * a + 15 - b / 8] |= 1 << (b % 8);
+                let [a, b] = [0, 1].map(|_| usize::from(group(random, profile)) % groups);
+                table[width * a + width - 1 - b / 8] |= 1 << (b % 8);
             }
         }
         7 => table.fill(random.pick(&[0x00, 0xff])),
-        _ => table = random.bytes(2048),
+        _ => table = random.bytes(table.len()),
     }
     table
 }

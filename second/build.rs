@@ -1,5 +1,5 @@
-//! Links the library itself, for timing only. SHELF_LIB names the folder of libshelf_c.a; without it, it is where
-//! `rt staticlib` puts it.
+//! Links the library itself, for timing only. SHELF_LIB names the folder of libshelf_c.a and libsmall_c.a; without it,
+//! it is where `rt staticlib` puts them.
 
 use std::env;
 
@@ -10,7 +10,9 @@ fn main() {
     }
     let package = env::var("CARGO_MANIFEST_DIR").expect("cargo sets it");
     let folder = env::var("SHELF_LIB").unwrap_or_else(|_| format!("{package}/../target/staticlib"));
-    println!("cargo:rerun-if-changed={folder}/libshelf_c.a");
     println!("cargo:rustc-link-search=native={folder}");
-    println!("cargo:rustc-link-lib=static=shelf_c");
+    for archive in ["shelf_c", "small_c"] {
+        println!("cargo:rerun-if-changed={folder}/lib{archive}.a");
+        println!("cargo:rustc-link-lib=static={archive}");
+    }
 }

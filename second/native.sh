@@ -1,5 +1,5 @@
 #!/bin/sh
-# Times the library beside the model on this machine.
+# Times the library beside the model on this machine, on both shelves.
 #
 # native.sh [ROOT [RUNS]]    ROOT is the repository, where it is not the folder above this one; of several runs each row's
 #                            median is printed
@@ -11,6 +11,7 @@ set -eu
 here=$(cd "$(dirname "$0")" && pwd)
 root=$(cd "${1:-$here/..}" && pwd)
 machine=$(uname -m)
+archives='shelf_c small_c'
 
 # Fills folder $2 with links to everything in folder $1 but the entry $3, which becomes a folder of its own.
 shadow() {
@@ -22,7 +23,7 @@ shadow() {
     mkdir "$2/$3"
 }
 
-keep_bitcode() {
+shadow_kit() {
     kit=$(dirname "$(dirname "$(readlink -f "$(command -v rt)")")")
     clang=on/$machine/toolchain/bin/clang
     shadow "$kit" "$work/kit" on
@@ -38,35 +39,46 @@ for argument; do case \$argument in *.bc) /bin/cp "\$argument" "$work/kept/\$\$.
 exec "$kit/$clang" "\$@"
 WRAPPER
     chmod +x "$work/kit/$clang"
-    mkdir "$work/kept"
-    chmod 777 "$work" "$work/kept"
-    (cd "$root" && RATTLE_HOME=$work/kit rt staticlib shelf_c >"$work/log" 2>&1) || { cat "$work/log" >&2; exit 1; }
 }
 
+# Only the bitcode of the archive $1 is kept.
+keep_bitcode() {
+    rm -rf "$work/kept"
+    mkdir "$work/kept"
+    chmod 777 "$work" "$work/kept"
+    (cd "$root" && RATTLE_HOME=$work/kit rt staticlib "$1" >"$work/log" 2>&1) || { cat "$work/log" >&2; exit 1; }
+}
+
+# Makes the archive $1 of what was kept.
 compile_for_this_machine() {
-    rm -rf "$lib"
-    mkdir -p "$lib"
     for bitcode in "$work"/kept/*.bc; do
-        [ -e "$bitcode" ] || { echo "native.sh: rt handed clang no bitcode" >&2; exit 1; }
-        object=$work/$(basename "$bitcode" .bc).o
+        [ -e "$bitcode" ] || { echo "native.sh: rt handed clang no bitcode of $1" >&2; exit 1; }
+        object=${bitcode%.bc}.o
         # clang warns that the bitcode was made for x86-64.
         "$kit/$clang" --target="$machine-unknown-linux-gnu" -O3 -fPIC -c -x ir "$bitcode" -o "$object" 2>"$work/log" || {
             cat "$work/log" >&2
             exit 1
         }
     done
-    "$kit/on/$machine/toolchain/bin/llvm-ar" rcs "$lib/libshelf_c.a" "$work"/*.o
+    "$kit/on/$machine/toolchain/bin/llvm-ar" rcs "$lib/lib$1.a" "$work"/kept/*.o
 }
 
 if [ "$machine" = x86_64 ]; then
-    (cd "$root" && rt staticlib shelf_c >/dev/null)
+    for archive in $archives; do
+        (cd "$root" && rt staticlib "$archive" >/dev/null)
+    done
     lib=$root/target/staticlib
 else
     work=$(mktemp -d)
     trap 'rm -rf "$work"' EXIT
     lib=$here/target/native
-    keep_bitcode
-    compile_for_this_machine
+    rm -rf "$lib"
+    mkdir -p "$lib"
+    shadow_kit
+    for archive in $archives; do
+        keep_bitcode "$archive"
+        compile_for_this_machine "$archive"
+    done
 fi
 SHELF_LIB=$lib cargo build --quiet --release --offline --features native --bin timing --manifest-path "$here/Cargo.toml"
 "$here/target/release/timing" "${2:-1}"

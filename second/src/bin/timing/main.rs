@@ -1,13 +1,16 @@
 //! The library's time beside the model's: one process, the same inputs in the same buffers, one run.
 //!
-//! Both are called in alternating rounds; a time is the median of all rounds' times for one call. Before a case is timed,
-//! both must give the same answer and leave the same bytes behind.
+//! Both are called in alternating rounds; a time is the median of all rounds' times for one call. Before a case is
+//! timed, both must give the same answer and leave the same bytes behind.
 
 use second::chains::slot_of;
+use second::trial::profile::Profile;
 use second::trial::random::Random;
-use second::Told;
+use second::{large, small, Answered, Elected, Opened, Told};
 use std::hint::black_box;
 use std::time::Instant;
+
+mod library;
 
 const ROUNDS: usize = 301;
 const SAMPLE_NS: u128 = 20_000;
@@ -47,233 +50,93 @@ struct Pair {
     rust: Act,
 }
 
-/// The calls of include/shelf.h, with slices in place of pointers and lengths.
-mod library {
-    use second::{Answered, Elected, Opened, Told};
-
-    mod c {
-        #[repr(C)]
-        pub struct Elected {
-            pub refusal: u32,
-            pub priority: u32,
-            pub address: u64,
-        }
-        #[repr(C)]
-        pub struct Opened {
-            pub refusal: u32,
-            pub outcome: u32,
-            pub phy: u32,
-        }
-        #[repr(C)]
-        pub struct Told {
-            pub refusal: u32,
-            pub count: u32,
-        }
-        #[repr(C)]
-        pub struct Answered {
-            pub refusal: u32,
-            pub result: u32,
-            pub length: u32,
-            pub count: u32,
-        }
-        type In = *const u8;
-        type Out = *mut u8;
-        extern "C" {
-            pub fn shelf_start_up(permissions: Out, n: usize) -> u32;
-            pub fn shelf_leaving(phys: Out, n: usize, phy: u32) -> u32;
-            pub fn shelf_identify(phys: Out, n: usize, phy: u32, address: In, m: usize) -> u32;
-            pub fn shelf_elect(phys: In, n: usize, routes: In, m: usize) -> Elected;
-            pub fn shelf_open(
-                phys: In,
-                n: usize,
-                routes: In,
-                m: usize,
-                permissions: In,
-                k: usize,
-                phy: u32,
-                frame: In,
-                l: usize,
-                out: Out,
-                o: usize,
-            ) -> Opened;
-            pub fn shelf_primitive(
-                phys: In,
-                n: usize,
-                permissions: In,
-                m: usize,
-                phy: u32,
-                number: u32,
-                set: Out,
-                s: usize,
-                out: Out,
-                o: usize,
-            ) -> Told;
-            pub fn shelf_smp(
-                phys: Out,
-                n: usize,
-                permissions: Out,
-                m: usize,
-                phy: u32,
-                carried: u32,
-                request: In,
-                q: usize,
-                response: Out,
-                r: usize,
-                set: Out,
-                s: usize,
-            ) -> Answered;
-        }
-    }
-
-    // A slice's pointer is never null and good for its length, and `&mut` keeps written buffers apart from all others:
-    // that is all the header asks.
-
-    pub fn start_up(permissions: &mut [u8]) -> u32 {
-        unsafe { c::shelf_start_up(permissions.as_mut_ptr(), permissions.len()) }
-    }
-
-    pub fn leaving(phys: &mut [u8], phy: u32) -> u32 {
-        unsafe { c::shelf_leaving(phys.as_mut_ptr(), phys.len(), phy) }
-    }
-
-    pub fn identify(phys: &mut [u8], phy: u32, address: &[u8]) -> u32 {
-        unsafe { c::shelf_identify(phys.as_mut_ptr(), phys.len(), phy, address.as_ptr(), address.len()) }
-    }
-
-    pub fn elect(phys: &[u8], routes: &[u8]) -> Elected {
-        let c::Elected { refusal, priority, address } =
-            unsafe { c::shelf_elect(phys.as_ptr(), phys.len(), routes.as_ptr(), routes.len()) };
-        Elected { refusal, priority, address }
-    }
-
-    pub fn open(phys: &[u8], routes: &[u8], permissions: &[u8], phy: u32, frame: &[u8], out: &mut [u8]) -> Opened {
-        let c::Opened { refusal, outcome, phy } = unsafe {
-            c::shelf_open(
-                phys.as_ptr(),
-                phys.len(),
-                routes.as_ptr(),
-                routes.len(),
-                permissions.as_ptr(),
-                permissions.len(),
-                phy,
-                frame.as_ptr(),
-                frame.len(),
-                out.as_mut_ptr(),
-                out.len(),
-            )
-        };
-        Opened { refusal, outcome, phy }
-    }
-
-    pub fn primitive(phys: &[u8], permissions: &[u8], phy: u32, number: u32, set: &mut [u8], out: &mut [u8]) -> Told {
-        let c::Told { refusal, count } = unsafe {
-            c::shelf_primitive(
-                phys.as_ptr(),
-                phys.len(),
-                permissions.as_ptr(),
-                permissions.len(),
-                phy,
-                number,
-                set.as_mut_ptr(),
-                set.len(),
-                out.as_mut_ptr(),
-                out.len(),
-            )
-        };
-        Told { refusal, count }
-    }
-
-    pub fn smp(
-        phys: &mut [u8],
-        permissions: &mut [u8],
-        phy: u32,
-        carried: u32,
-        request: &[u8],
-        response: &mut [u8],
-        set: &mut [u8],
-    ) -> Answered {
-        let c::Answered { refusal, result, length, count } = unsafe {
-            c::shelf_smp(
-                phys.as_mut_ptr(),
-                phys.len(),
-                permissions.as_mut_ptr(),
-                permissions.len(),
-                phy,
-                carried,
-                request.as_ptr(),
-                request.len(),
-                response.as_mut_ptr(),
-                response.len(),
-                set.as_mut_ptr(),
-                set.len(),
-            )
-        };
-        Answered { refusal, result, length, count }
-    }
-}
-
-/// The same act over the library and over the model.
+/// The same act over the library and over the model, which takes the call as its last argument.
 macro_rules! pair {
-    ($lent:ident, $call:ident, $act:expr) => {
-        Pair {
-            rattle: |$lent| {
-                use library::$call;
-                $act
-            },
-            rust: |$lent| {
-                use second::large::$call;
-                $act
-            },
-        }
+    ($act:ident, $library:path, $model:expr) => {
+        Pair { rattle: |lent| $act(lent, $library), rust: |lent| $act(lent, $model) }
     };
 }
+
+const START_UP: Pair = pair!(start_up, library::large::start_up, large::start_up);
+const ELECT: Pair = pair!(elect, library::links::elect, large::elect);
+const OPEN: Pair = pair!(open, library::large::open, large::open);
+const SMP: Pair = pair!(smp, library::large::smp, large::smp);
+const LEAVING: Pair = pair!(leaving, library::links::leaving, large::leaving);
+const IDENTIFY: Pair = pair!(identify, library::links::identify, large::identify);
+
+// Broadcasts are timed beside the same chains in plain Rust.
+const PRIMITIVE: Pair = pair!(primitive, library::large::primitive, large::primitive_by_chains);
+const BROADCAST_FRAME: Pair = pair!(broadcast_frame, library::large::broadcast_frame, large::broadcast_frame_by_chains);
+
+/// Beside the model, which reads the rule as it stands: each phy is compared with all that are lower.
+const PRIMITIVE_AS_READ: Pair = pair!(primitive, library::large::primitive, large::primitive);
+
+const SMALL_START_UP: Pair = pair!(start_up, library::small::start_up, small::start_up);
+const SMALL_OPEN: Pair = pair!(open, library::small::open, small::open);
+const SMALL_PRIMITIVE: Pair = pair!(primitive, library::small::primitive, small::primitive_by_chains);
+const SMALL_BROADCAST_FRAME: Pair =
+    pair!(broadcast_frame, library::small::broadcast_frame, small::broadcast_frame_by_chains);
+const SMALL_SMP: Pair = pair!(smp, library::small::smp, small::smp);
 
 /// The arriving phy of all calls but identify and leaving: the first one, in group 1.
 const ARRIVING: u32 = 0;
 
-const START_UP: Pair = pair!(lent, start_up, [start_up(&mut lent.permissions).into(), 0, 0, 0]);
-
-const ELECT: Pair = pair!(lent, elect, {
-    let elected = elect(&lent.phys, &lent.routes);
-    [elected.refusal.into(), elected.priority.into(), elected.address, 0]
-});
-
-const OPEN: Pair = pair!(lent, open, {
-    let opened = open(&lent.phys, &lent.routes, &lent.permissions, ARRIVING, &lent.message, &mut lent.out);
-    [opened.refusal.into(), opened.outcome.into(), opened.phy.into(), 0]
-});
-
-/// Beside the same chains in plain Rust.
-const PRIMITIVE: Pair =
-    Pair { rattle: |lent| tell(lent, library::primitive), rust: |lent| tell(lent, second::large::primitive_by_chains) };
-
-/// Beside the model, which reads the rule as it stands: each phy is compared with all that are lower.
-const PRIMITIVE_AS_READ: Pair =
-    Pair { rattle: |lent| tell(lent, library::primitive), rust: |lent| tell(lent, second::large::primitive) };
+#[inline]
+fn start_up(lent: &mut Lent, start_up: impl Fn(&mut [u8]) -> u32) -> [u64; 4] {
+    [start_up(&mut lent.permissions).into(), 0, 0, 0]
+}
 
 #[inline]
-fn tell(lent: &mut Lent, primitive: impl Fn(&[u8], &[u8], u32, u32, &mut [u8], &mut [u8]) -> Told) -> [u64; 4] {
+fn elect(lent: &mut Lent, elect: impl Fn(&[u8], &[u8]) -> Elected) -> [u64; 4] {
+    let elected = elect(&lent.phys, &lent.routes);
+    [elected.refusal.into(), elected.priority.into(), elected.address, 0]
+}
+
+#[inline]
+fn open(lent: &mut Lent, open: impl Fn(&[u8], &[u8], &[u8], u32, &[u8], &mut [u8]) -> Opened) -> [u64; 4] {
+    let opened = open(&lent.phys, &lent.routes, &lent.permissions, ARRIVING, &lent.message, &mut lent.out);
+    [opened.refusal.into(), opened.outcome.into(), opened.phy.into(), 0]
+}
+
+#[inline]
+fn primitive(lent: &mut Lent, primitive: impl Fn(&[u8], &[u8], u32, u32, &mut [u8], &mut [u8]) -> Told) -> [u64; 4] {
     let told = primitive(&lent.phys, &lent.permissions, ARRIVING, 0, &mut lent.set, &mut lent.out);
     [told.refusal.into(), told.count.into(), 0, 0]
 }
 
-const SMP: Pair = pair!(lent, smp, {
+#[inline]
+fn broadcast_frame(
+    lent: &mut Lent,
+    broadcast_frame: impl Fn(&[u8], &[u8], u32, &[u8], &mut [u8], &mut [u8]) -> Told,
+) -> [u64; 4] {
+    let Lent { phys, permissions, message, set, out, .. } = lent;
+    let told = broadcast_frame(phys, permissions, ARRIVING, message, set, out);
+    [told.refusal.into(), told.count.into(), 0, 0]
+}
+
+#[inline]
+fn smp(
+    lent: &mut Lent,
+    smp: impl Fn(&mut [u8], &mut [u8], u32, u32, &[u8], &mut [u8], &mut [u8]) -> Answered,
+) -> [u64; 4] {
     let Lent { phys, permissions, message, response, set, .. } = lent;
     let answer = smp(phys, permissions, ARRIVING, 0, message, response, set);
     [answer.refusal, answer.result, answer.length, answer.count].map(u64::from)
-});
+}
 
 /// One leaving for each phy.
-const LEAVING: Pair = pair!(lent, leaving, {
+#[inline]
+fn leaving(lent: &mut Lent, leaving: impl Fn(&mut [u8], u32) -> u32) -> [u64; 4] {
     let phys = 0..lent.phys.len() as u32 / 12;
     [phys.map(|phy| u64::from(leaving(&mut lent.phys, phy))).sum(), 0, 0, 0]
-});
+}
 
 /// One IDENTIFY with the same, other address for each phy.
-const IDENTIFY: Pair = pair!(lent, identify, {
+#[inline]
+fn identify(lent: &mut Lent, identify: impl Fn(&mut [u8], u32, &[u8]) -> u32) -> [u64; 4] {
     let phys = 0..lent.phys.len() as u32 / 12;
     [phys.map(|phy| u64::from(identify(&mut lent.phys, phy, &lent.message))).sum(), 0, 0, 0]
-});
+}
 
 /// The addresses of one maker differ in their last bytes only.
 fn address(number: usize) -> [u8; 8] {
@@ -284,19 +147,22 @@ const NOWHERE: usize = 0xffff;
 
 /// A shelf of this size. All phys are ready, and phy 0 is in group 1, which reaches all groups.
 fn shelf(phys: usize, routes: usize) -> Lent {
-    let mut permissions = vec![0; 2048];
-    second::large::start_up(&mut permissions);
     let phy = |i: usize| [&[i as u8 % 16, 1 + (i % 100) as u8, 0b11, 0][..], &address(i)].concat();
     let route = |i: usize| [&address(128 + i)[..], &[(i % phys) as u8, (i % 128) as u8, i as u8 % 16, 0]].concat();
     Lent {
         phys: (0..phys).flat_map(phy).collect(),
         routes: (0..routes).flat_map(route).collect(),
-        permissions,
+        permissions: Profile::Large.fresh_table(),
         message: Vec::new(),
         response: vec![0; 1020],
         set: vec![0; 16],
         out: vec![0; 28],
     }
+}
+
+/// The same with the small shelf's permissions, which have few of its phys' groups, and without routes.
+fn small_shelf(phys: usize) -> Lent {
+    Lent { permissions: Profile::Small.fresh_table(), ..shelf(phys, 0) }
 }
 
 /// With a route to the phy with the highest number as the last one.
@@ -326,7 +192,8 @@ fn no_addresses(mut lent: Lent) -> Lent {
     lent
 }
 
-/// The worst that addresses can do: all are different and go to one slot, so each phy is compared with all that are lower.
+/// The worst that addresses can do: all are different and go to one slot, so each phy is compared with all that are
+/// lower.
 fn one_slot(mut lent: Lent) -> Lent {
     let mut addresses = (0x5000_c500_0000_0000..).filter(|&address: &u64| slot_of(address) == 7);
     for record in lent.phys.as_chunks_mut::<12>().0 {
@@ -352,22 +219,30 @@ fn none_told(mut lent: Lent) -> Lent {
     lent
 }
 
-fn single(mut lent: Lent) -> Lent {
-    lent.message = vec![0x40, 0xc1, 0, 2, 0, 0, 0x08, 0x89, 0, 0x81, 0, 0];
+/// Phy 0 participates, and what arrives there carries group 1.
+fn frame_arrives(mut lent: Lent) -> Lent {
+    lent.phys[0] |= 0x10;
+    lent.message = vec![0x03, 0, 0, 1];
     lent
 }
 
-/// A batch up to row 127.
-fn batch(mut lent: Lent, k: usize) -> Lent {
-    lent.message = vec![0x40, 0xc1, 0, 2 + 4 * k as u8, 0, 0, 0, 0, 0, 0x91, (128 - k) as u8, k as u8];
+fn single(mut lent: Lent, source: u8, target: u8) -> Lent {
+    lent.message = vec![0x40, 0xc1, 0, 2, 0, 0, source, target | 0x80, 0, 0x81, 0, 0];
+    lent
+}
+
+/// A batch of k rows up to the last.
+fn batch(mut lent: Lent, k: usize, last: usize) -> Lent {
+    lent.message = vec![0x40, 0xc1, 0, 2 + 4 * k as u8, 0, 0, 0, 0, 0, 0x91, (last + 1 - k) as u8, k as u8];
     lent.message.extend(Random::new(2).bytes(16 * k));
     lent
 }
 
-/// Descriptors that leave phy 0 in group 1, so that the next call has the right again.
-fn configure_phys(mut lent: Lent, k: usize) -> Lent {
+/// Descriptors with groups from 1 up to the last and again. They leave phy 0 in group 1, so that the next call has the
+/// right again.
+fn configure_phys(mut lent: Lent, k: usize, last: usize) -> Lent {
     lent.message = vec![0x40, 0x93, 0, (1 + k.div_ceil(2)) as u8, 0, 0, 0, k as u8];
-    lent.message.extend((0..k).flat_map(|i| [i as u8 % 16, 1 + (i % 100) as u8]));
+    lent.message.extend((0..k).flat_map(|i| [i as u8 % 16, 1 + (i % last) as u8]));
     lent.message.resize(8 + 4 * k.div_ceil(2), 0);
     lent
 }
@@ -398,14 +273,16 @@ struct Row {
     rust: f64,
 }
 
-/// The number of runs is the first argument, else 1. What is printed of several runs is each row's median, for other work
-/// on the machine disturbs some of them.
+/// The number of runs is the first argument, else 1. What is printed of several runs is each row's median, for other
+/// work on the machine disturbs some of them.
 fn main() {
     let runs: usize = std::env::args().nth(1).map_or(1, |runs| runs.parse().expect("a number of runs"));
     println!("median ns for one call, {ROUNDS} rounds, {runs} runs{:18}Rattle     Rust    ratio", "");
     print((0..runs).map(|_| hardest()).collect());
     println!();
     print((0..runs).map(|_| growth()).collect());
+    println!();
+    print((0..runs).map(|_| on_small_shelf()).collect());
 }
 
 fn print(runs: Vec<Vec<Row>>) {
@@ -428,9 +305,10 @@ fn hardest() -> Vec<Row> {
         case("primitive, 128 phys, no addresses", PRIMITIVE, no_addresses(full()), Runs::Many),
         case("primitive, 128 phys and ports, one slot", PRIMITIVE, one_slot(full()), Runs::Many),
         case("primitive, 128 phys and ports, beside the model", PRIMITIVE_AS_READ, ports_of(full(), 1), Runs::Many),
-        case("C1h single", SMP, single(full()), Runs::Many),
-        case("C1h batch of 63 rows", SMP, batch(full(), 63), Runs::Many),
-        case("93h of 128 descriptors", SMP, configure_phys(full(), 128), Runs::Many),
+        case("broadcast frame, 128 phys and ports", BROADCAST_FRAME, frame_arrives(ports_of(full(), 1)), Runs::Many),
+        case("C1h single", SMP, single(full(), 8, 9), Runs::Many),
+        case("C1h batch of 63 rows", SMP, batch(full(), 63, 127), Runs::Many),
+        case("93h of 128 descriptors", SMP, configure_phys(full(), 128, 100), Runs::Many),
         case("51h of 63 rows", SMP, report(full(), 63), Runs::Many),
         case("election over 128 phys and 1,024 routes", ELECT, full(), Runs::Many),
         case("IDENTIFY, another address", IDENTIFY, other_address(full()), Runs::OneForEachPhy),
@@ -460,10 +338,10 @@ fn growth() -> Vec<Row> {
         ));
     }
     for k in [1, 4, 16, 63] {
-        rows.push(case(&format!("C1h batch, rows {k}"), SMP, batch(shelf(128, 0), k), Runs::Many));
+        rows.push(case(&format!("C1h batch, rows {k}"), SMP, batch(shelf(128, 0), k, 127), Runs::Many));
     }
     for k in [1, 8, 32, 128] {
-        rows.push(case(&format!("93h, descriptors {k}"), SMP, configure_phys(shelf(128, 0), k), Runs::Many));
+        rows.push(case(&format!("93h, descriptors {k}"), SMP, configure_phys(shelf(128, 0), k, 100), Runs::Many));
     }
     for k in [1, 16, 63] {
         rows.push(case(&format!("51h, rows {k}"), SMP, report(shelf(128, 0), k), Runs::Many));
@@ -471,6 +349,31 @@ fn growth() -> Vec<Row> {
     for routes in [0, 256, 1024] {
         rows.push(case(&format!("election, 128 phys, {routes} routes"), ELECT, shelf(128, routes), Runs::Many));
     }
+    rows
+}
+
+fn on_small_shelf() -> Vec<Row> {
+    let mut rows = vec![case("small: start-up", SMALL_START_UP, small_shelf(8), Runs::Many)];
+    for phys in [8, 128] {
+        let (to_last, ports) = (open_to(small_shelf(phys), phys - 1), ports_of(small_shelf(phys), 1));
+        rows.extend([
+            case(&format!("small: OPEN, {phys} phys, the last fits"), SMALL_OPEN, to_last, Runs::Many),
+            case(&format!("small: primitive, {phys} phys and ports"), SMALL_PRIMITIVE, ports.clone(), Runs::Many),
+            case(
+                &format!("small: broadcast frame, {phys} phys and ports"),
+                SMALL_BROADCAST_FRAME,
+                frame_arrives(ports),
+                Runs::Many,
+            ),
+        ]);
+    }
+    let full = || small_shelf(128);
+    rows.extend([
+        case("small: C1h single", SMALL_SMP, single(full(), 6, 7), Runs::Many),
+        case("small: C1h batch of 6 rows", SMALL_SMP, batch(full(), 6, 7), Runs::Many),
+        case("small: 93h of 128 descriptors", SMALL_SMP, configure_phys(full(), 128, 7), Runs::Many),
+        case("small: 51h of 63 rows", SMALL_SMP, report(full(), 63), Runs::Many),
+    ]);
     rows
 }
 

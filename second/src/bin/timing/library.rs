@@ -1,0 +1,253 @@
+//! The library's calls, with slices in place of pointers and lengths: those of include/shelf.h and of include/small.h.
+//!
+//! A slice's pointer is never null and good for its length, and `&mut` keeps written buffers apart from all others:
+//! that is all that the headers ask.
+
+type In = *const u8;
+type Out = *mut u8;
+
+/// Calls that take no permission table, and so are the same on both shelves.
+pub mod links {
+    use super::{In, Out};
+    use second::Elected;
+
+    mod c {
+        #[repr(C)]
+        pub struct Elected {
+            pub refusal: u32,
+            pub priority: u32,
+            pub address: u64,
+        }
+    }
+
+    extern "C" {
+        fn shelf_leaving(phys: Out, n: usize, phy: u32) -> u32;
+        fn shelf_identify(phys: Out, n: usize, phy: u32, address: In, m: usize) -> u32;
+        fn shelf_elect(phys: In, n: usize, routes: In, m: usize) -> c::Elected;
+    }
+
+    pub fn leaving(phys: &mut [u8], phy: u32) -> u32 {
+        unsafe { shelf_leaving(phys.as_mut_ptr(), phys.len(), phy) }
+    }
+
+    pub fn identify(phys: &mut [u8], phy: u32, address: &[u8]) -> u32 {
+        unsafe { shelf_identify(phys.as_mut_ptr(), phys.len(), phy, address.as_ptr(), address.len()) }
+    }
+
+    pub fn elect(phys: &[u8], routes: &[u8]) -> Elected {
+        let c::Elected { refusal, priority, address } =
+            unsafe { shelf_elect(phys.as_ptr(), phys.len(), routes.as_ptr(), routes.len()) };
+        Elected { refusal, priority, address }
+    }
+}
+
+/// What the calls answer in C, whatever their names start with.
+mod c {
+    #[repr(C)]
+    pub struct Opened {
+        pub refusal: u32,
+        pub outcome: u32,
+        pub phy: u32,
+    }
+
+    #[repr(C)]
+    pub struct Told {
+        pub refusal: u32,
+        pub count: u32,
+    }
+
+    #[repr(C)]
+    pub struct Answered {
+        pub refusal: u32,
+        pub result: u32,
+        pub length: u32,
+        pub count: u32,
+    }
+}
+
+/// A shelf's calls that take a permission table. Their names in C start with the prefix.
+macro_rules! shelf {
+    ($shelf:ident, $prefix:literal) => {
+        pub mod $shelf {
+            use super::{c, In, Out};
+            use second::{Answered, Opened, Told};
+
+            mod named {
+                use super::{c, In, Out};
+
+                extern "C" {
+                    #[link_name = concat!($prefix, "start_up")]
+                    pub fn start_up(permissions: Out, n: usize) -> u32;
+                    #[link_name = concat!($prefix, "open")]
+                    pub fn open(
+                        phys: In,
+                        n: usize,
+                        routes: In,
+                        m: usize,
+                        permissions: In,
+                        k: usize,
+                        phy: u32,
+                        frame: In,
+                        l: usize,
+                        out: Out,
+                        o: usize,
+                    ) -> c::Opened;
+                    #[link_name = concat!($prefix, "primitive")]
+                    pub fn primitive(
+                        phys: In,
+                        n: usize,
+                        permissions: In,
+                        m: usize,
+                        phy: u32,
+                        number: u32,
+                        set: Out,
+                        s: usize,
+                        out: Out,
+                        o: usize,
+                    ) -> c::Told;
+                    #[link_name = concat!($prefix, "broadcast_frame")]
+                    pub fn broadcast_frame(
+                        phys: In,
+                        n: usize,
+                        permissions: In,
+                        m: usize,
+                        phy: u32,
+                        frame: In,
+                        l: usize,
+                        set: Out,
+                        s: usize,
+                        out: Out,
+                        o: usize,
+                    ) -> c::Told;
+                    #[link_name = concat!($prefix, "smp")]
+                    pub fn smp(
+                        phys: Out,
+                        n: usize,
+                        permissions: Out,
+                        m: usize,
+                        phy: u32,
+                        carried: u32,
+                        request: In,
+                        q: usize,
+                        response: Out,
+                        r: usize,
+                        set: Out,
+                        s: usize,
+                    ) -> c::Answered;
+                }
+            }
+
+            pub fn start_up(permissions: &mut [u8]) -> u32 {
+                unsafe { named::start_up(permissions.as_mut_ptr(), permissions.len()) }
+            }
+
+            pub fn open(
+                phys: &[u8],
+                routes: &[u8],
+                permissions: &[u8],
+                phy: u32,
+                frame: &[u8],
+                out: &mut [u8],
+            ) -> Opened {
+                let c::Opened { refusal, outcome, phy } = unsafe {
+                    named::open(
+                        phys.as_ptr(),
+                        phys.len(),
+                        routes.as_ptr(),
+                        routes.len(),
+                        permissions.as_ptr(),
+                        permissions.len(),
+                        phy,
+                        frame.as_ptr(),
+                        frame.len(),
+                        out.as_mut_ptr(),
+                        out.len(),
+                    )
+                };
+                Opened { refusal, outcome, phy }
+            }
+
+            pub fn primitive(
+                phys: &[u8],
+                permissions: &[u8],
+                phy: u32,
+                number: u32,
+                set: &mut [u8],
+                out: &mut [u8],
+            ) -> Told {
+                let c::Told { refusal, count } = unsafe {
+                    named::primitive(
+                        phys.as_ptr(),
+                        phys.len(),
+                        permissions.as_ptr(),
+                        permissions.len(),
+                        phy,
+                        number,
+                        set.as_mut_ptr(),
+                        set.len(),
+                        out.as_mut_ptr(),
+                        out.len(),
+                    )
+                };
+                Told { refusal, count }
+            }
+
+            pub fn broadcast_frame(
+                phys: &[u8],
+                permissions: &[u8],
+                phy: u32,
+                frame: &[u8],
+                set: &mut [u8],
+                out: &mut [u8],
+            ) -> Told {
+                let c::Told { refusal, count } = unsafe {
+                    named::broadcast_frame(
+                        phys.as_ptr(),
+                        phys.len(),
+                        permissions.as_ptr(),
+                        permissions.len(),
+                        phy,
+                        frame.as_ptr(),
+                        frame.len(),
+                        set.as_mut_ptr(),
+                        set.len(),
+                        out.as_mut_ptr(),
+                        out.len(),
+                    )
+                };
+                Told { refusal, count }
+            }
+
+            pub fn smp(
+                phys: &mut [u8],
+                permissions: &mut [u8],
+                phy: u32,
+                carried: u32,
+                request: &[u8],
+                response: &mut [u8],
+                set: &mut [u8],
+            ) -> Answered {
+                let c::Answered { refusal, result, length, count } = unsafe {
+                    named::smp(
+                        phys.as_mut_ptr(),
+                        phys.len(),
+                        permissions.as_mut_ptr(),
+                        permissions.len(),
+                        phy,
+                        carried,
+                        request.as_ptr(),
+                        request.len(),
+                        response.as_mut_ptr(),
+                        response.len(),
+                        set.as_mut_ptr(),
+                        set.len(),
+                    )
+                };
+                Answered { refusal, result, length, count }
+            }
+        }
+    };
+}
+
+shelf!(large, "shelf_");
+shelf!(small, "small_");

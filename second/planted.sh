@@ -101,6 +101,8 @@ small 'C1h: a single order above 7 accepted and not written' smp.rs \
 small '93h: a group above 7 written' smp.rs 'usize::from(group) < groups_of_table(WIDTH)' 'group <= 127'
 small "51h: the table's byte first in its row" permission.rs 'number_of(row).to_be_bytes()' 'number_of(row).to_le_bytes()'
 small '51h: row 1 ends at group 7' permission.rs 'row_1\[\.\.LARGE - WIDTH\]\.fill(0xff);' ''
-small 'a table of 2,048 bytes taken' tables.rs 'rows.len() == groups_of_table(WIDTH)' \
-    'rows.len() == groups_of_table(WIDTH) || rows.len() == 2048'
+small 'a table of 2,048 bytes read' tables.rs 'match permissions.as_chunks() {' \
+    'let size = if permissions.len() == 2048 { 8 } else { permissions.len() }; match permissions[..size].as_chunks() {'
+small 'a table of 2,048 bytes written' tables.rs 'match permissions.as_chunks_mut() {' \
+    'let size = if permissions.len() == 2048 { 8 } else { permissions.len() }; match permissions[..size].as_chunks_mut() {'
 exit $missed

@@ -1,5 +1,5 @@
-/* The small shelf on the bench rack, through small.h: what its eight bytes say, an order that they can hold and one that they cannot, and
- * groups above 7, which reach group 1 alone. The output is in small.txt. */
+/* The small shelf through small.h: what its eight bytes say, an order that they can hold and one that they cannot, and groups
+ * above 7, which reach group 1 alone. The output is in small.txt. */
 #include <small.h>
 
 #include <stdio.h>

@@ -1,5 +1,5 @@
-/* How much stack each call of shelf.h takes, or with SMALL defined each of small.h: the bytes below its caller's stack pointer that the call writes, the return address
- * included, the most over the trials below. One line for a call.
+/* How much stack each call of shelf.h takes, or with SMALL defined each of small.h: the bytes below its caller's stack pointer
+ * that the call writes, the return address included, the most over the trials below. One line for a call.
  *
  * A trial runs on a stack of its own, which is painted before; the lowest byte that lost its paint tells how deep it was written.
  * What the caller itself writes there is found by a call of a function that only returns, and taken off. Each trial is made with
@@ -9,20 +9,23 @@
 #define NAMED(name) small_##name
 #define SHELF "small_"
 enum { GROUPS = 8, ROW = 1 };
-enum { NO_DESTINATION = SMALL_NO_DESTINATION, BAD_DESTINATION = SMALL_BAD_DESTINATION, ZONE_VIOLATION = SMALL_ZONE_VIOLATION, FORWARD = SMALL_FORWARD };
+enum { NO_DESTINATION = SMALL_NO_DESTINATION, BAD_DESTINATION = SMALL_BAD_DESTINATION };
+enum { ZONE_VIOLATION = SMALL_ZONE_VIOLATION, FORWARD = SMALL_FORWARD };
 #else
 #include <shelf.h>
 #define NAMED(name) shelf_##name
 #define SHELF "shelf_"
 enum { GROUPS = 128, ROW = 16 };
-enum { NO_DESTINATION = SHELF_NO_DESTINATION, BAD_DESTINATION = SHELF_BAD_DESTINATION, ZONE_VIOLATION = SHELF_ZONE_VIOLATION, FORWARD = SHELF_FORWARD };
+enum { NO_DESTINATION = SHELF_NO_DESTINATION, BAD_DESTINATION = SHELF_BAD_DESTINATION };
+enum { ZONE_VIOLATION = SHELF_ZONE_VIOLATION, FORWARD = SHELF_FORWARD };
 #endif
 
 #include <stdio.h>
 #include <stdlib.h>
 #include <string.h>
 
-/* A request's and a report's rows have sixteen bytes each, at most 63 of them; a batch has as many as the table has groups from 2 on. */
+/* A batch's and a report's rows have sixteen bytes each. A report has 63 of them at most, a batch no more than there are groups
+ * from 2 on. */
 enum { PHYS = 128, ROUTES = 1024, RECORD = 12, REPORT = 63, BATCH = GROUPS - 2 < REPORT ? GROUPS - 2 : REPORT };
 enum { STACK = 1 << 16, RETURN_ADDRESS = 8 };
 

@@ -8,8 +8,8 @@ use native.Mathlib.Nat.{zero-add}
 use native.Mathlib.Omega.{arith}
 use lib.ListN.{length, take, drop, getD, set, length-set, length-drop}
 use lib.Seq.{take-suc, length-take-le, getD-set-other, getD-drop}
-use Rattle.rack.specs.Inner.{written}
-use Rattle.rack.proofs.Lines.{written-append}
+use Rattle.lines.specs.Written.{written}
+use Rattle.lines.proofs.Lines.{written-append}
 
 past : (vs l : List ℕ) (at j : ℕ) → at + length vs ≤ j → getD (written l at vs) j 0 ≡ getD l j 0
 unfolding written

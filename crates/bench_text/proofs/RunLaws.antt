@@ -9,11 +9,13 @@ use native.Mathlib.Omega.{arith}
 use borrow.Author.Tests.{eq-eqb, ne-eqb, lt-ltb, le-ltb}
 use lib.ListN.{length, take, drop, length-take, length-drop, drop-of-length-le}
 use lib.Seq.{take-all, drop-drop, sets-eq}
-use Rattle.rack.specs.Text.{line}
-use Rattle.rack.specs.Events.{Given, eventGives, eventLength}
-use Rattle.rack.specs.Words.{T}
-use Rattle.rack.specs.Inner.{written, Wrote, Lined}
-use Rattle.rack.proofs.Lines.{behind}
+use Rattle.lines.specs.Text.{line}
+use Rattle.call_words.specs.Gives.{Given}
+use Rattle.events.specs.Events.{eventGives, eventLength}
+use Rattle.lines.specs.Words.{T}
+use Rattle.lines.specs.Written.{written, Wrote}
+use Rattle.events.specs.Inner.{Lined}
+use Rattle.lines.proofs.Lines.{behind}
 use Rattle.bench_text.specs.Stream.{ending}
 use Rattle.bench_text.specs.Run.{Ran, stopped, onward, ready, runOf, runOver, Put, Told, Within}
 use Rattle.bench_text.proofs.StreamLaws.{whole-event}

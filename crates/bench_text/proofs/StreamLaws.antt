@@ -7,8 +7,8 @@ use native.Mathlib.Decide.{ℕ-discrete, decLt}
 use native.Mathlib.Omega.{arith}
 use borrow.Author.Tests.{eq-eqb, ne-eqb, lt-ltb, le-ltb}
 use lib.ListN.{length, drop, getD, length-append, length-drop, List·getD-append}
-use Rattle.rack.specs.Text.{line}
-use Rattle.rack.specs.Events.{eventLength}
+use Rattle.lines.specs.Text.{line}
+use Rattle.events.specs.Events.{eventLength}
 use Rattle.bench_text.specs.Stream.{ending, frontGives, linesOf, eventsText}
 
 -- a whole event: it is as long as its header says, and all of it is there

@@ -11,9 +11,9 @@ use borrow.Author.Tests.{le-ltb}
 use lib.Dec.{ltb}
 use lib.ListN.{length, take, drop, getD, length-append, length-drop}
 use lib.Seq.{take-append-le, drop-append-le, drop-drop}
-use Rattle.rack.specs.Text.{line}
-use Rattle.rack.specs.Words.{firstLine}
-use Rattle.rack.specs.Events.{eventGives, eventLength}
+use Rattle.lines.specs.Text.{line}
+use Rattle.lines.specs.Words.{firstLine}
+use Rattle.events.specs.Events.{eventGives, eventLength}
 use Rattle.bench_text.specs.Stream.{ending, eventsText, wholeText}
 use Rattle.bench_text.specs.Run.{Ran, ready, runOf, runOver}
 use Rattle.bench_text.specs.Turns.{Turn, bytes, run, Stage, start, ranAt, after, stageAfter, cameIn, saidIn, WholeText}

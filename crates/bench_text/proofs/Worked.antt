@@ -13,14 +13,16 @@ use Rattle.tables.specs.Routes.{routesSized}
 use Rattle.tables.specs.Arrival.{arrivalChecks}
 use Rattle.tables.specs.Refusals.{firstRefusal}
 use Rattle.opens.specs.Open.{openSource, judge, byte20, sent}
-use Rattle.opens.specs.Search.{sameBytes, zeroBytes, findPhy, findRoute, search}
-use Rattle.broadcasts.specs.Broadcasts.{permitted, permittedInPort, told, toldSet, frameByte, frameOf}
+use Rattle.searches.specs.Search.{sameBytes, zeroBytes, findPhy, findRoute, search}
+use Rattle.told_set.specs.ToldSet.{permitted, permittedInPort, told, toldSet}
+use Rattle.broadcasts.specs.Broadcasts.{frameByte, frameOf}
 use Rattle.requests.specs.Requests.{smpSource, right, replied}
 use Rattle.zone_permission.specs.ZonePermission.{operationChecks, ordersOf, permissionReply}
 use Rattle.smp.specs.Smp.{smpReply, lengthField}
 use Rattle.rack.specs.Rack.{rack, flat, rackTable}
-use Rattle.rack.specs.Text.{digits, decimal, line}
-use Rattle.rack.specs.Events.{smpGives, openGives, primitiveGives, gives, eventGives, eventLength}
+use Rattle.lines.specs.Text.{digits, decimal, line}
+use Rattle.call_words.specs.Gives.{smpGives, openGives, primitiveGives}
+use Rattle.events.specs.Events.{gives, eventGives, eventLength}
 use Rattle.bench_text.specs.Stream.{ending, linesOf, wholeText}
 use Rattle.bench_text.specs.Cases.{fiveCases, fiveLines, Worked}
 

@@ -7,10 +7,11 @@ use lib.Dec.{eqb, ltb}
 use lib.ListN.{length, drop}
 use Rattle.permit.specs.Permission.{startTable}
 use Rattle.rack.specs.Rack.{rackTable}
-use Rattle.rack.specs.Text.{line}
-use Rattle.rack.specs.Words.{firstLine}
-use Rattle.rack.specs.Events.{Given, eventLength}
-use Rattle.rack.specs.Inner.{Wrote}
+use Rattle.lines.specs.Text.{line}
+use Rattle.lines.specs.Words.{firstLine}
+use Rattle.call_words.specs.Gives.{Given}
+use Rattle.events.specs.Events.{eventLength}
+use Rattle.lines.specs.Written.{Wrote}
 use Rattle.bench_text.specs.Stream.{frontGives}
 
 -- how many bytes a run took, the number of the event after them, the lines of those in them, and both tables

@@ -6,9 +6,10 @@ use lib.Dec.{eqb}
 use lib.ListN.{length, take, drop}
 use Rattle.permit.specs.Permission.{startTable}
 use Rattle.rack.specs.Rack.{rackTable}
-use Rattle.rack.specs.Text.{line}
-use Rattle.rack.specs.Words.{T, firstLine}
-use Rattle.rack.specs.Events.{Given, eventGives, eventLength}
+use Rattle.lines.specs.Text.{line}
+use Rattle.lines.specs.Words.{T, firstLine}
+use Rattle.call_words.specs.Gives.{Given}
+use Rattle.events.specs.Events.{eventGives, eventLength}
 
 -- "A cut-off last event, of any kind, prints number and T.": of bytes with no whole event at their front
 unfoldable pub ending : ℕ → List ℕ → List ℕ

@@ -3,7 +3,7 @@ use mathlib.Core.Path.{_≡_}
 use mathlib.Core.List.{List, [], _∷_, _++_}
 use Prim.Native.Nat.{ℕ}
 use lib.ListN.{drop}
-use Rattle.rack.specs.Events.{eventLength}
+use Rattle.events.specs.Events.{eventLength}
 use Rattle.bench_text.specs.Stream.{ending, wholeText}
 use Rattle.bench_text.specs.Run.{Ran, begun, runOver}
 

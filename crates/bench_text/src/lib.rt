@@ -2,8 +2,8 @@
 ghost use mathlib.Core.Path.{_≡_};
 ghost use Prim.Native.Nat.{_+_, _<_, _≤_};
 ghost use lib.ListN.{length, take, drop};
-ghost use Rattle.rack.specs.Events.{eventGives};
-ghost use Rattle.rack.specs.Inner.{written, Wrote};
+ghost use Rattle.events.specs.Events.{eventGives};
+ghost use Rattle.lines.specs.Written.{written, Wrote};
 ghost use Rattle.bench_text.specs.Stream.{ending};
 ghost use Rattle.bench_text.specs.Run.{begun, ready, runOver, Told, Within, Put};
 
@@ -20,7 +20,7 @@ pub fn begin(phys: &mut [u8], permissions: &mut [u8], text: &mut [u8]) -> Progre
     ensures { λ r. ⌜ Told begun (now (text .entry)) (r .taken) (r .number) (r .used) (now (text .exit)) (now (phys .exit)) (now (permissions .exit)) × (r .used ≤ length (now (text .entry))) ⌝ }
 {
     rack::start(phys, permissions);
-    let n = rack::first_line(text);
+    let n = events::first_line(text);
     Progress {
         taken: 0,
         number: 1,
@@ -35,7 +35,7 @@ fn next_event(bytes: &[u8], room: usize) -> usize
     if room < 64 {
         return 0;
     }
-    rack::event_length(bytes)
+    events::event_length(bytes)
 }
 
 // Runs one event and puts its line into the text from `used` on; answers where the text then ends.
@@ -50,7 +50,7 @@ fn put_event(
     requires { ⌜ (5 ≤ length (now event)) × (used + 64 ≤ length (now text)) ⌝ }
     ensures { λ r. ⌜ Put number (eventGives (now (event .entry)) (now (phys .entry)) (now (permissions .entry))) (now (text .entry)) used r (now (text .exit)) (now (phys .exit)) (now (permissions .exit)) ⌝ }
 {
-    let n = rack::event_line(phys, permissions, event, number, &mut text[used..]);
+    let n = events::event_line(phys, permissions, event, number, &mut text[used..]);
     used + n
 }
 
@@ -91,7 +91,7 @@ pub fn end_line(rest: &[u8], number: u64, text: &mut [u8]) -> usize
     if rest.len() == 0 {
         return 0;
     }
-    rack::cut_line(number, text)
+    events::cut_line(number, text)
 }
 
 // Moves the n bytes from `from` on to the window's front, so that there is room to read behind them.

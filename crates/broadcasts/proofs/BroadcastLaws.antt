@@ -23,8 +23,9 @@ use Rattle.tables.proofs.ArrivalLaws.{both, Arrived, arrival-clear}
 use Rattle.tables.specs.Outcome.{answer, out}
 use Rattle.tables.proofs.OutcomeLaws.{gives}
 use Rattle.broadcasts.specs.Inner.{Lent, Announced}
-use Rattle.broadcasts.proofs.ToldLaws.{told-out, told-self, length-told}
-use Rattle.broadcasts.specs.Broadcasts.{toldSet, frameByte, frameOf, announced, roomFor, primitiveChecks, frameChecks, typeOf, typedLength}
+use Rattle.told_set.proofs.ToldLaws.{told-out, told-self, length-told}
+use Rattle.told_set.specs.ToldSet.{toldSet}
+use Rattle.broadcasts.specs.Broadcasts.{frameByte, frameOf, announced, roomFor, primitiveChecks, frameChecks, typeOf, typedLength}
 
 -- ---- a frame that is not refused has a type, and so four bytes at least
 pub typed-long : (arrived : List ℕ) → length arrived ≡ typedLength arrived → 2 ≤ typeOf arrived → typeOf arrived ≤ 3 → 4 ≤ length arrived

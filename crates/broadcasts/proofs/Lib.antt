@@ -1,4 +1,2 @@
-pub mod ToldLaws
-pub mod Chains
 pub mod BroadcastLaws
 pub mod Unique

@@ -6,13 +6,13 @@ use lib.Dec.{eqb, leb}
 use lib.ListN.{length, getD, drop}
 use Rattle.wire.specs.Bits.{tab}
 use Rattle.wire.specs.Groups.{outsideGroup}
-use Rattle.wire.specs.PhySet.{some, setOf, physIn}
-use Rattle.permit.specs.Permission.{permissionsSized, reaches}
+use Rattle.wire.specs.PhySet.{physIn}
+use Rattle.permit.specs.Permission.{permissionsSized}
 use Rattle.tables.specs.Refusals.{Check, refuse, below, same, differ, off, firstRefusal}
 use Rattle.tables.specs.Outcome.{Answer, refusal, answer, Out, outcome}
-use Rattle.tables.specs.Phys.{phyGroup, participating, ready}
-use Rattle.tables.specs.Ports.{samePort}
+use Rattle.tables.specs.Phys.{phyGroup, participating}
 use Rattle.tables.specs.Arrival.{arrivalChecks}
+use Rattle.told_set.specs.ToldSet.{toldSet}
 use Rattle.broadcasts.specs.declared.Told.{Told}
 use Rattle.broadcasts.specs.declared.Told.the-variants.{Refused, Count}
 
@@ -20,22 +20,6 @@ use Rattle.broadcasts.specs.declared.Told.the-variants.{Refused, Count}
 abbrev pub toldAs : Told → Answer
 toldAs (Refused n) = refusal n
 toldAs (Count n) = answer (n ∷ [])
-
--- a permitted phy: "ready .., with P(source group, its group) on"; `reaches` is P, and says what holds for groups that the table does not hold
-unfoldable pub permitted : ℕ → List ℕ → List ℕ → ℕ → ℕ → Bool
-permitted w phys permissions source i = ready phys i && reaches w permissions source (phyGroup phys i)
-
--- phy j, which may be phy i itself, is a permitted phy of phy i's port
-unfoldable pub permittedInPort : ℕ → List ℕ → List ℕ → ℕ → ℕ → ℕ → Bool
-permittedInPort w phys permissions source i j = permitted w phys permissions source j && samePort phys i j
-
--- "A set for an incoming broadcast leaves out that port" (the arriving phy's) "and names only the lowest permitted phy of each other port."
-unfoldable pub told : ℕ → List ℕ → List ℕ → ℕ → ℕ → ℕ → Bool
-told w phys permissions phy source i =
-    permitted w phys permissions source i && (not (samePort phys phy i) && not (some (permittedInPort w phys permissions source i) i))
-
-unfoldable pub toldSet : ℕ → List ℕ → List ℕ → ℕ → ℕ → List ℕ
-toldSet w phys permissions phy source = setOf (told w phys permissions phy source)
 
 -- "a type 2h frame, written whole at every answer 0: byte 0 the number times 16 plus 2, byte 3 the source group, the other 26 bytes zero"
 -- Its byte k:

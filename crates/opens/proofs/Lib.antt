@@ -1,4 +1,3 @@
-pub mod SearchLaws
 pub mod OpenLaws
 pub mod OpenSteps
 pub mod Unique

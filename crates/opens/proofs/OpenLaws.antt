@@ -11,10 +11,10 @@ use Rattle.wire.specs.declared.ZoneGroup.{ZoneGroup}
 use Rattle.permit.specs.Permission.{reaches}
 use Rattle.tables.specs.Phys.{phyGroup, participating}
 use Rattle.tables.specs.Ports.{samePort}
-use Rattle.opens.specs.declared.Found.{Found}
-use Rattle.opens.specs.declared.Found.the-variants.{At, Nothing}
+use Rattle.searches.specs.declared.Found.{Found}
+use Rattle.searches.specs.declared.Found.the-variants.{At, Nothing}
 use Rattle.opens.specs.declared.Opened.the-variants.{BadDestination, ZoneViolation, Forward}
-use Rattle.opens.specs.Search.{search}
+use Rattle.searches.specs.Search.{search}
 use Rattle.opens.specs.Open.{openSource, judge, opened}
 
 -- ---- the source group is a group

@@ -5,7 +5,7 @@ use mathlib.Core.Bool.{Bool, true, false, cond, not, _&&_}
 use mathlib.Core.List.{List, [], _∷_, _++_}
 use Prim.Native.Nat.{ℕ, _+_, _*_, _/_, _%_, _<_, _≤_}
 use native.Mathlib.Omega.{arith}
-use borrow.Author.Tests.{eqb-true, leb-true, lt-ltb, le-ltb, not-true, not-false}
+use borrow.Author.Tests.{leb-true, lt-ltb, le-ltb, not-true, not-false}
 use mir.Syntax.{w8}
 use mir.Val.{Fits}
 use lib.ListN.{length, getD, set, drop}
@@ -18,23 +18,16 @@ use Rattle.tables.proofs.OutcomeLaws.{gives}
 use Rattle.tables.proofs.ArrivalLaws.{both, Arrived, arrival-clear}
 use Rattle.wire.specs.declared.PhyNumber.{PhyNumber}
 use Rattle.wire.specs.declared.ZoneGroup.{ZoneGroup}
-use Rattle.tables.specs.Phys.{phyRecord, phyCount, phyGroup, phyPriority, participating, ready}
+use Rattle.tables.specs.Phys.{phyRecord, phyCount, phyGroup, phyPriority, participating}
 use Rattle.tables.specs.Ports.{samePort}
 use Rattle.tables.specs.Routes.{routesSized}
-use Rattle.opens.specs.declared.Found.{Found}
-use Rattle.opens.specs.declared.Found.the-variants.{At, Nothing}
+use Rattle.searches.specs.declared.Found.{Found}
+use Rattle.searches.specs.declared.Found.the-variants.{At, Nothing}
 use Rattle.opens.specs.declared.Opened.{Opened}
 use Rattle.opens.specs.declared.Opened.the-variants.{NoDestination, BadDestination, ZoneViolation, Forward}
-use Rattle.opens.specs.Search.{usable, search}
+use Rattle.searches.specs.Search.{search}
 use Rattle.opens.specs.Open.{valuesOf, openedAs, roomFor, openChecks, openSource, judge, byte20, sent, openOut}
 use Rattle.opens.proofs.OpenLaws.{source-lt}
-
--- ---- is_usable
-pub unusable : (phys : List ℕ) (p : ℕ) → phyCount phys ≤ p → false ≡ usable phys p
-unusable phys p h = rw (le-ltb _ _ h)
-
-pub usable-ready : (phys : List ℕ) (p : ℕ) (r : Bool) → p < phyCount phys → r ≡ ready phys p → r ≡ usable phys p
-usable-ready phys p r h e = rw (lt-ltb _ _ h) e
 
 -- ---- open_source
 pub source-carried : (phys : List ℕ) (phy : ℕ) (frame : List ℕ) (b : Bool) (x : ℕ) → b ≡ participating phys phy → not b ≡ false → x ≡ getD frame 20 0 % 128 → x ≡ openSource phys phy frame

@@ -13,11 +13,11 @@ use Rattle.tables.specs.Phys.{phyGroup, phyPriority, participating}
 use Rattle.tables.specs.Ports.{samePort}
 use Rattle.tables.specs.Routes.{routesSized}
 use Rattle.tables.specs.Arrival.{arrivalChecks}
-use Rattle.opens.specs.declared.Found.{Found}
-use Rattle.opens.specs.declared.Found.the-variants.{At, Nothing}
+use Rattle.searches.specs.declared.Found.{Found}
+use Rattle.searches.specs.declared.Found.the-variants.{At, Nothing}
 use Rattle.opens.specs.declared.Opened.{Opened}
 use Rattle.opens.specs.declared.Opened.the-variants.{Refused, NoDestination, BadDestination, ZoneViolation, Forward}
-use Rattle.opens.specs.Search.{search}
+use Rattle.searches.specs.Search.{search}
 
 -- the answer in document 01's numbers: an outcome's place in its list, and the phy to forward on
 abbrev pub valuesOf : Opened → List ℕ

@@ -13,7 +13,7 @@ use lib.Pow.{pow-pos, split, ones-lt, shr-shr}
 use lib.Bits.{bitAnd, bitOr, and-mask, and-block, and-high, or-block, or-step, or-zero-r, and-zero-r}
 use Rattle.wire.specs.Bits.{num, bit, setBit}
 use Rattle.wire.proofs.BitLaws.{each8}
-use Rattle.permit.specs.Rows.{Masked}
+use Rattle.permit.specs.Masks.{Masked}
 
 -- the last mask, where k is none of the seven numbers before it
 pub mask-last : (k : ℕ) → k < 8 → (k ≡ 0 → ⊥) → (k ≡ 1 → ⊥) → (k ≡ 2 → ⊥) → (k ≡ 3 → ⊥) → (k ≡ 4 → ⊥) → (k ≡ 5 → ⊥) → (k ≡ 6 → ⊥) → 128 ≡ 2 ^ k

@@ -18,7 +18,7 @@ use Rattle.wire.proofs.BitLaws.{each8, eqb-num, bit-same, bit-other, bit-fits}
 use Rattle.wire.proofs.Loops.{length-tab, getD-tab}
 use Rattle.permit.specs.Permission.{groups, tableSize, permissionsSized, place, P, setP, setBoth, startByte, startTable, Width, Table}
 use Rattle.permit.specs.History.{names}
-use Rattle.permit.specs.Rows.{Masked}
+use Rattle.permit.specs.Masks.{Masked}
 use Rattle.permit.proofs.BitOps.{bits-ext, bit-ext}
 
 -- ---- places

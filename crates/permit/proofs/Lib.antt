@@ -2,6 +2,5 @@ pub mod BitOps
 pub mod Laws
 pub mod HistoryLaws
 pub mod BatchLaws
-pub mod RowLaws
 pub mod StartLaws
 pub mod ReachLaws

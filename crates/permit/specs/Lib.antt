@@ -1,5 +1,5 @@
 pub mod Permission
 pub mod Orders
 pub mod History
-pub mod Rows
+pub mod Masks
 pub mod Start

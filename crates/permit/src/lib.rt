@@ -5,15 +5,13 @@ ghost use mathlib.Core.Path.{_≡_};
 ghost use Prim.Native.Nat.{_+_, _*_, _/_, _%_, _^_, _-_, _≤_, _<_};
 ghost use mathlib.Core.Bool.{_||_};
 ghost use lib.Dec.{eqb};
-ghost use lib.ListN.{length, drop};
-ghost use Rattle.wire.specs.Bits.{bit};
-ghost use Rattle.permit.specs.Permission.{groups, tableSize, permissionsSized, place, P, reaches, setP, setBoth, startByte, startTable, Width, Table, Whole};
-ghost use Rattle.permit.specs.Orders.{apply, rowOrders, batchOrders, rowsEnd};
-ghost use Rattle.permit.specs.Rows.{Masked, RowIs, ColumnIs, ColumnTo, byteHas};
+ghost use lib.ListN.{length};
+ghost use Rattle.permit.specs.Permission.{groups, tableSize, permissionsSized, place, P, reaches, setP, setBoth, startTable, Width, Table, Whole};
+ghost use Rattle.permit.specs.Masks.{Masked};
 ghost use Rattle.permit.specs.Start.{Between, rowAgain};
 
 // The bit of a group within its byte: eight masks, told apart by a match, since a table in a local is copied at each use.
-fn mask(group: usize) -> u8
+pub fn mask(group: usize) -> u8
     ensures { λ r. ⌜ r ≡ 2 ^ (group % 8) ⌝ }
 {
     let k = group % 8;
@@ -54,7 +52,7 @@ pub fn row_at(width: usize, row: usize) -> usize
 }
 
 // The byte of a group in a row, from the row's end, so that a loop over one row's groups reckons the end once.
-fn byte_at(width: usize, row: usize, group: usize) -> usize
+pub fn byte_at(width: usize, row: usize, group: usize) -> usize
     requires { ⌜ (1 ≤ width) × (width ≤ 16) × (row < groups width) × (group < groups width) ⌝ }
     ensures { λ r. ⌜ (r ≡ place width row group) × (r < tableSize width) ⌝ }
 {
@@ -93,7 +91,7 @@ pub fn permitted(width: usize, permissions: &[u8], a: ZoneGroup, b: ZoneGroup) -
     row_has(width, permissions, row, group)
 }
 
-fn with_mask(x: u8, m: u8, on: bool) -> u8
+pub fn with_mask(x: u8, m: u8, on: bool) -> u8
     ensures { λ r. ⌜ Masked x m on r ⌝ }
 {
     if on { x | m } else { x & !m }
@@ -152,102 +150,4 @@ pub fn start_table(width: usize, permissions: &mut [u8])
     permissions[width - 1] = 2;
     repeat_row(width, permissions);
     fill(permissions, width, width + width, 255);
-}
-
-// A row's last byte holds groups 0 and 1 in its two low bits.
-fn keep_low(new: u8, old: u8) -> u8
-    ensures { λ r. ⌜ r ≡ new / 4 * 4 + old % 4 ⌝ }
-{
-    new / 4 * 4 + old % 4
-}
-
-// Row r becomes row i of a batch's rows, which are sixteen bytes each, but for groups 0 and 1: the last bytes of that row, as many as
-// a row of the table has.
-fn put_row(width: usize, permissions: &mut [u8], rows: &[u8], i: usize, r: ZoneGroup)
-    requires { ⌜ Table width (now permissions) × (16 * i + 16 ≤ length (now rows)) × (r .0 < groups width) ⌝ }
-    ensures { λ _. ⌜ RowIs width (P 16 (now (rows .entry)) i) (r .0) (now (permissions .entry)) (now (permissions .exit)) ⌝ }
-{
-    let to = row_at(width, r.0 as usize);
-    let from = i * 16 + (16 - width);
-    let last = width - 1;
-    wire::copy(permissions, to, rows, from, last);
-    permissions[to + last] = keep_low(rows[from + last], permissions[to + last]);
-}
-
-// Bit k of a byte, by a shift: the column reads 126 of them for each row of a batch.
-fn bit_of(x: u8, k: usize) -> bool
-    requires { ⌜ k < 8 ⌝ }
-    ensures { λ r. ⌜ r ≡ eqb (bit x k) 1 ⌝ }
-{
-    (x >> k) % 2 == 1
-}
-
-// Group `group` of the rows from first + low to first + 7 becomes that row's bit of `bits`, a byte that is read once for
-// all eight. m is the group's mask.
-fn put_bits(
-    width: usize,
-    permissions: &mut [u8],
-    bits: u8,
-    first: usize,
-    low: usize,
-    group: usize,
-    m: u8,
-)
-    requires { ⌜ Table width (now permissions) × (first + 8 ≤ groups width) × (first % 8 ≡ 0) × (low ≤ 8) × (group < groups width) × (m ≡ 2 ^ (group % 8)) ⌝ }
-    ensures { λ _. ⌜ ColumnTo width (byteHas bits) group (first + low) (now (permissions .entry)) (now (permissions .exit)) (first + 8) ⌝ }
-{
-    let mut k = low;
-    while k < 8 {
-        let on = bit_of(bits, k);
-        let at = byte_at(width, first + k, group);
-        permissions[at] = with_mask(permissions[at], m, on);
-        k += 1;
-    }
-}
-
-// Group r of every row from 2 on becomes that row's group in row i of a batch's rows.
-fn put_column(width: usize, permissions: &mut [u8], rows: &[u8], i: usize, r: ZoneGroup)
-    requires { ⌜ Table width (now permissions) × (16 * i + 16 ≤ length (now rows)) × (r .0 < groups width) ⌝ }
-    ensures { λ _. ⌜ ColumnIs width (P 16 (now (rows .entry)) i) (r .0) (now (permissions .entry)) (now (permissions .exit)) ⌝ }
-{
-    let group = r.0 as usize;
-    let m = mask(group);
-    let from = i * 16;
-    put_bits(width, permissions, rows[from + 15], 0, 2, group, m);
-    let mut q: usize = 1;
-    while q < width {
-        put_bits(
-            width,
-            permissions,
-            rows[from + (15 - q)],
-            q * 8,
-            0,
-            group,
-            m,
-        );
-        q += 1;
-    }
-}
-
-// Row i of a batch's rows, for the group r: each group from 2 on, both ways.
-fn batch_row(width: usize, permissions: &mut [u8], rows: &[u8], i: usize, r: ZoneGroup)
-    requires { ⌜ Table width (now permissions) × (16 * i + 16 ≤ length (now rows)) × (r .0 < groups width) ⌝ }
-    ensures { λ _. ⌜ now (permissions .exit) ≡ apply width (rowOrders (P 16 (now (rows .entry)) i) (r .0) 2 (groups width - 2)) (now (permissions .entry)) ⌝ }
-{
-    put_row(width, permissions, rows, i, r);
-    put_column(width, permissions, rows, i, r);
-}
-
-// The count rows of a request from byte 12 on, in order, so that a later row overrides.
-pub fn batch(width: usize, permissions: &mut [u8], request: &[u8], start: ZoneGroup, count: u8)
-    requires { ⌜ Table width (now permissions) × (12 + 16 * count ≤ length (now request)) × (start .0 + count ≤ 128) × (rowsEnd (start .0) count ≤ groups width) ⌝ }
-    ensures { λ _. ⌜ now (permissions .exit) ≡ apply width (batchOrders width (drop 12 (now (request .entry))) (start .0) 0 count) (now (permissions .entry)) ⌝ }
-{
-    let rows = &request[12..];
-    let mut i: u8 = 0;
-    while i < count {
-        let r = start.0 + i;
-        batch_row(width, permissions, rows, i as usize, ZoneGroup(r));
-        i += 1;
-    }
 }

@@ -1,4 +1,1 @@
-pub mod Lines
 pub mod Records
-pub mod EventLaws
-pub mod Unique

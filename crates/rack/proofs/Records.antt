@@ -10,8 +10,8 @@ use lib.Seq.{sets-eq, drop-cons}
 use Rattle.wire.proofs.BitLaws.{each8}
 use Rattle.rack.specs.declared.PhyRecord.{PhyRecord}
 use Rattle.rack.specs.Rack.{bytesOf, rack, flat, rackTable}
-use Rattle.rack.specs.Inner.{written, Wrote}
-use Rattle.rack.proofs.Lines.{written-append, length-written}
+use Rattle.lines.specs.Written.{written, Wrote}
+use Rattle.lines.proofs.Lines.{written-append, length-written}
 
 -- four bytes, and the address behind them
 pub store-done : (t : List ℕ) (at : ℕ) (r : PhyRecord) (end : ℕ) (t₁ : List ℕ) (end₁ : ℕ) (t₂ : List ℕ)

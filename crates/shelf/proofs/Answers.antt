@@ -11,7 +11,7 @@ use Rattle.wire.specs.PhySet.{member, tally, physIn}
 use Rattle.tables.specs.Outcome.{refusal, answer, out, outcome}
 use Rattle.tables.specs.Phys.{emptySet}
 use Rattle.opens.specs.declared.Opened.the-variants.{Forward}
-use Rattle.opens.specs.Search.{search}
+use Rattle.searches.specs.Search.{search}
 use Rattle.opens.specs.Open.{openedAs, opened, openOut}
 use Rattle.opens.proofs.OpenSteps.{judged}
 use Rattle.opens.proofs.Unique.{one-answer}

@@ -13,7 +13,7 @@ use Rattle.permit.proofs.ReachLaws.{reach-row, reach-group, reaches-16}
 use Rattle.tables.specs.Phys.{phyGroup}
 use Rattle.opens.specs.Open.{openSource}
 use Rattle.opens.proofs.OpenLaws as opens
-use Rattle.broadcasts.proofs.ToldLaws as broadcasts
+use Rattle.told_set.proofs.ToldLaws as broadcasts
 use Rattle.shelf.specs.Calls.{outcomeOf}
 use Rattle.shelf.specs.Promises.{AllHeld, Apart, NoOpenApart, NoBroadcastApart}
 use Rattle.shelf.proofs.Answers.{forwarded}

@@ -23,8 +23,8 @@ use Rattle.tables.specs.Phys.{phyGroup}
 use Rattle.links.specs.Links.{startUpOut}
 use Rattle.opens.specs.Open.{openSource}
 use Rattle.opens.proofs.OpenLaws as opens
-use Rattle.broadcasts.specs.Broadcasts.{toldSet}
-use Rattle.broadcasts.proofs.ToldLaws as broadcasts
+use Rattle.told_set.specs.ToldSet.{toldSet}
+use Rattle.told_set.proofs.ToldLaws as broadcasts
 use Rattle.smp.specs.Smp.{roomFor, smpChecks, smpOut, acceptedOrders}
 use Rattle.smp.proofs.SmpLaws.{permissionsAfter, orders-applied, orders-valid}
 use Rattle.shelf.specs.Calls.{Call, startUp, leaving, identify, elect, opening, primitive, broadcastFrame, smp, outcomeOf, bufferOf, after, accepted, kept, run, orders}

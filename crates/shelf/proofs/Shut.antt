@@ -13,8 +13,9 @@ use Rattle.permit.proofs.Laws.{P-start}
 use Rattle.tables.specs.Outcome.{Answer, answer, out}
 use Rattle.tables.specs.Phys.{phyGroup}
 use Rattle.election.proofs.ElectionLaws.{greatest}
-use Rattle.broadcasts.specs.Broadcasts.{toldSet, frameSource}
-use Rattle.broadcasts.proofs.ToldLaws.{length-told}
+use Rattle.told_set.specs.ToldSet.{toldSet}
+use Rattle.broadcasts.specs.Broadcasts.{frameSource}
+use Rattle.told_set.proofs.ToldLaws.{length-told}
 use Rattle.smp.specs.Smp.{smpReply}
 use Rattle.smp.proofs.SmpLaws.{set-16}
 use Rattle.rack.specs.Rack.{rackTable}

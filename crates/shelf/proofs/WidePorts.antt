@@ -16,8 +16,9 @@ use Rattle.tables.specs.Ports.{samePort}
 use Rattle.tables.proofs.PortLaws.{port-unready}
 use Rattle.links.specs.Links.{left}
 use Rattle.opens.proofs.OpenLaws.{forward-permitted}
-use Rattle.broadcasts.specs.Broadcasts.{told, toldSet, frameSource}
-use Rattle.broadcasts.proofs.ToldLaws.{told-parts, told-lowest, told-once, port-named, in-set, length-told}
+use Rattle.told_set.specs.ToldSet.{told, toldSet}
+use Rattle.broadcasts.specs.Broadcasts.{frameSource}
+use Rattle.told_set.proofs.ToldLaws.{told-parts, told-lowest, told-once, port-named, in-set, length-told}
 use Rattle.shelf.specs.Calls.{outcomeOf}
 use Rattle.shelf.specs.Promises.{Relayed, aPrimitive, aFrame, ToldPermitted, ToldOnce, EachPortTold, NoReturn, LeavesPort}
 use Rattle.shelf.proofs.Answers.{gave, forwarded}

@@ -19,11 +19,12 @@ use Rattle.tables.specs.Phys.{phyGroup, emptySet}
 use Rattle.tables.specs.Ports.{samePort}
 use Rattle.links.specs.Links.{linkedAs}
 use Rattle.election.specs.Election.{electedAs, candidates, elected, Greatest}
-use Rattle.opens.specs.declared.Found.the-variants.{At}
+use Rattle.searches.specs.declared.Found.the-variants.{At}
 use Rattle.opens.specs.declared.Opened.the-variants.{Forward}
-use Rattle.opens.specs.Search.{search}
+use Rattle.searches.specs.Search.{search}
 use Rattle.opens.specs.Open.{openedAs, openSource, openOut}
-use Rattle.broadcasts.specs.Broadcasts.{toldAs, permitted, frameSource, primitiveOut, broadcastOut}
+use Rattle.told_set.specs.ToldSet.{permitted}
+use Rattle.broadcasts.specs.Broadcasts.{toldAs, frameSource, primitiveOut, broadcastOut}
 use Rattle.smp.specs.Smp.{answeredAs, functionOf}
 use Rattle.shelf.specs.Calls.{Call, startUp, leaving, opening, primitive, broadcastFrame, smp, outcomeOf, handedIn, answerOf, after, run, orders}
 

@@ -13,8 +13,9 @@ use Rattle.tables.specs.Routes.{routesSized}
 use Rattle.tables.specs.Arrival.{arrivalChecks}
 use Rattle.tables.specs.Refusals.{firstRefusal}
 use Rattle.opens.specs.Open.{openSource, judge, byte20, sent}
-use Rattle.opens.specs.Search.{sameBytes, zeroBytes, findPhy, findRoute, search}
-use Rattle.broadcasts.specs.Broadcasts.{permitted, permittedInPort, told, toldSet, frameByte, frameOf, typedLength}
+use Rattle.searches.specs.Search.{sameBytes, zeroBytes, findPhy, findRoute, search}
+use Rattle.told_set.specs.ToldSet.{permitted, permittedInPort, told, toldSet}
+use Rattle.broadcasts.specs.Broadcasts.{frameByte, frameOf, typedLength}
 use Rattle.requests.specs.Requests.{smpSource, right, replied}
 use Rattle.phy_zone.specs.PhyZone.{sound, allSound, configured, phyZoneReply}
 use Rattle.zone_permission.specs.ZonePermission.{operationChecks, ordersOf, permissionReply}

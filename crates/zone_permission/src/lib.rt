@@ -133,7 +133,7 @@ fn obey(width: usize, permissions: &mut [u8], request: &[u8])
     if operation == 8 {
         obey_single(width, permissions, request);
     } else {
-        permit::batch(
+        batches::batch(
             width,
             permissions,
             request,

@@ -2,7 +2,7 @@
 -- Assumes nothing.
 use mathlib.Core.Path.{sym, _∙_}
 use Rattle.tables.proofs.OutcomeLaws.{refuses}
-use Rattle.opens.proofs.SearchLaws.{search-names}
+use Rattle.searches.proofs.SearchLaws.{search-names}
 use Rattle.opens.proofs.OpenSteps.{open-most, open-there, open-table, open-frame, open-room, open-none, open-to}
 use borrow.Author.Needs.{needs}
 use Rattle.opens.proofs.open_at.Statement.{statement}

@@ -1,0 +1,2 @@
+pub mod ToldSet
+pub mod Inner

@@ -16,7 +16,7 @@ groups w = 8 * w
 abbrev pub tableSize : ℕ → ℕ
 tableSize w = groups w * w
 
--- "Permission table: 2,048 bytes"
+-- "Permission table: 2,048 bytes"; of the small shelf "The permission table must be 8 bytes"
 abbrev pub permissionsSized : ℕ → List ℕ → Bool
 permissionsSized w permissions = eqb (length permissions) (tableSize w)
 

@@ -44,7 +44,8 @@ singleChecks w request =
     ∷ refuse 0x02 (atMost (groups w) (target request))
     ∷ []
 
--- "Batch: .. M not 12 + 16k: 03h; start (byte 10) + k above 128: 11h; start below 2 with k at least 1: 02h."
+-- "Batch: .. M not 12 + 16k: 03h; start (byte 10) + k above 128: 11h; start below 2 with k at least 1: 02h."; and a "batch row ..
+-- naming a group above 7 answers 02h, after all present results": one that the table does not hold
 abbrev pub batchChecks : ℕ → List ℕ → List Check
 batchChecks w request =
     refuse 0x03 (differ (length request) (12 + 16 * rowCount request))

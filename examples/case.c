@@ -1,4 +1,5 @@
-/* Cases 1 and 2 of the scope document on the bench rack, and then a port of two phys, through shelf.h. The output is in case.txt. */
+/* Cases 1 and 2 of the scope document on the bench rack, then a port of two phys, then the group that is carried for SMP, through shelf.h.
+ * The output is in case.txt. */
 #include <shelf.h>
 
 #include <stdio.h>
@@ -76,7 +77,20 @@ static void change_on_0(void) {
     printf("\n");
 }
 
+/* A 93h request of no descriptors over a connection on phy 7, which participates. */
+static void ask_on_7(unsigned carried) {
+    static const uint8_t request[] = {0x40, 0x93, 0, 1, 0, 0, 0, 0};
+    uint8_t response[1020], set[16];
+    struct shelf_answered answer = shelf_smp(phys, sizeof phys, permissions, sizeof permissions, 7, carried, request,
+                                             sizeof request, response, sizeof response, set, sizeof set);
+    printf("SMP from phy 7, carried %u: refusal %u", carried, answer.refusal);
+    if (answer.refusal == 0)
+        printf(", result %02X", answer.result);
+    printf("\n");
+}
+
 int main(void) {
+    const uint8_t byte_20 = 0x81; /* of the connection's OPEN: ACCESS ZONE MANAGEMENT, and group 1 */
     bench_rack();
     printf("start-up: refusal %u\n", shelf_start_up(permissions, sizeof permissions));
     permissions_of_8_and_9();
@@ -88,5 +102,7 @@ int main(void) {
     make_sisters();
     change_on_0();
     open_to(3, 2);
+    ask_on_7(byte_20);
+    ask_on_7(byte_20 & 0x7F);
     return 0;
 }

@@ -10,9 +10,14 @@
  * A number that C could narrow silently is taken as 32 bits and never truncated:
  *   phy      256 or more is refused as any number that is not below the number of phys: 2
  *   number   256 or more is refused as any primitive number over 7: 5
- *   carried  256 or more is no byte: refused as 5, after the other causes of 5
+ *   carried  256 or more is no byte: refused as 5 on any phy, after the other causes of 5
  *
  * Sizes: phys 1 to 128 records of 12 bytes; routes 0 to 1,024 records of 12 bytes; permissions 2,048 bytes.
+ *
+ * Group bytes: in carried, in byte 3 of a broadcast frame and in byte 9 of a route record a byte above 127 is no group. On a
+ * participating phy such a carried byte, or such a byte 3, is refused as 5, after the other causes of 5; on a phy that is not
+ * participating neither is read. A route record with such a byte 9 is skipped in shelf_open's search, which goes on, and is no
+ * candidate in shelf_elect. In byte 20 of an OPEN frame and in byte 1 of a phy record the group is the low 7 bits.
  *
  * Ports: all ready phys with the same attached address are one port, by the phy table as it is at the call; a phy whose address is
  * zero is a port by itself.
@@ -90,10 +95,11 @@ struct shelf_told shelf_broadcast_frame(const uint8_t *phys, size_t phys_len, co
                                         size_t permissions_len, uint32_t phy, const uint8_t *frame, size_t frame_len,
                                         uint8_t *set, size_t set_len, uint8_t *out, size_t out_len);
 
-/* An SMP request arrives; carried is the byte that the caller took from the connection's OPEN. Refusals: 1, 2, 3 (response_len
- * under 1,020 or set_len under 16), 7, 4, 5, 8. Writes the first length bytes of response and the first 16 of set; where result
- * is 0 and the function is 93h also bytes 0 and 1 of the records named, and where it is C1h also permissions. Where result is not 0
- * length is 4 and the 16 bytes of set are zero. A change notice (93h, C1h) goes to all ready phys, whatever their ports. */
+/* An SMP request arrives; carried is the group of the connection's OPEN, handed in with bit 7 taken off: bits 6 to 0 of its byte 20.
+ * The whole byte, where its bit 7 (ACCESS ZONE MANAGEMENT) is one, is no group. Refusals: 1, 2, 3 (response_len under 1,020 or set_len
+ * under 16), 7, 4, 5, 8. Writes the first length bytes of response and the first 16 of set; where result is 0 and the function is 93h
+ * also bytes 0 and 1 of the records named, and where it is C1h also permissions. Where result is not 0 length is 4 and the 16 bytes of
+ * set are zero. A change notice (93h, C1h) goes to all ready phys, whatever their ports. */
 struct shelf_answered shelf_smp(uint8_t *phys, size_t phys_len, uint8_t *permissions, size_t permissions_len, uint32_t phy,
                                 uint32_t carried, const uint8_t *request, size_t request_len, uint8_t *response,
                                 size_t response_len, uint8_t *set, size_t set_len);

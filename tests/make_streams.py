@@ -109,7 +109,7 @@ STREAMS = {
         (primitive(0, 7), 'B 7'),
         (primitive(7, 3), 'B 7'),
         (frame(7, 0x02, 8), 'B 1'),
-        (frame(7, 0x72, 0x81), 'B 7'),
+        (frame(7, 0x72, 1), 'B 7'),
         (frame(7, 0x03, 1, length=4), 'B 7'),
         (smp(0, single(8, ON + 9)), 'S 00 4 8'),
         (frame(7, 0x13, 8, length=4), 'B 3'),
@@ -171,7 +171,7 @@ STREAMS = {
         (smp(2, phy_zone(0)), 'S 02 4 0'),
         (smp(2, phy_zone(0), carried=1), 'S 02 4 0'),
         (smp(7, phy_zone(0), carried=8), 'S 02 4 0'),
-        (smp(7, phy_zone(0), carried=0x81), 'S 00 4 8'),
+        (smp(7, phy_zone(0), carried=1), 'S 00 4 8'),
         (smp(0, '40 93 00 00'), 'S 03 4 0'),
         (smp(0, '40 93 00 01 00 00 00 00 00 00 00 00'), 'S 03 4 0'),
         (smp(0, '40 93 00 02 00 00 02 01 00 05'), 'S 03 4 0'),
@@ -285,6 +285,54 @@ STREAMS = {
         (primitive(0, 0), 'B 5'),  # 1, 2, 4, 6, 7
         (primitive(5, 0), 'B 2'),  # of group 0: 0, 7
         (smp(0, phy_zone(0)), 'S 00 4 8'),
+    ],
+    # a byte from outside that is above 127 is no group; phy 7 participates, phys 0 and 2 do not
+    'carried_7': [
+        (smp(7, phy_zone(0), carried=127), 'S 02 4 0'),  # a group, without the right
+        (smp(7, phy_zone(0), carried=128), 'X 5'),
+        (smp(7, phy_zone(0), carried=136), 'X 5'),
+        (smp(7, phy_zone(0), carried=255), 'X 5'),
+        (smp(7, phy_zone(0), carried=0x81), 'X 5'),  # group 1 has the right; with bit 7 it is no group
+        (smp(7, single(8, ON + 9), carried=127), 'S 01 4 0'),
+        (smp(7, single(8, ON + 9), carried=136), 'X 5'),
+        (smp(7, report(0, 1), carried=127), 'S 01 4 0'),
+        (smp(7, report(0, 1), carried=255), 'X 5'),
+        (smp(7, '40 10 00 00', carried=127), 'S 01 4 0'),
+        (smp(7, '40 10 00 00', carried=136), 'X 5'),  # before the function byte
+        (smp(7, '41 93 00 01 00 00 00 00', carried=136), 'X 5'),
+        (smp(7, '40 93 00', carried=136), 'X 4'),
+        (smp(7, '', carried=255), 'X 4'),
+        (leaving(7), 'L'),
+        (smp(7, phy_zone(0), carried=136), 'X 7'),
+        (identify(7, address(7)), 'L'),
+        (primitive(2, 0), 'B 2'),  # nothing above switched 8 and 9 on
+    ],
+    'carried_0': [
+        (smp(0, phy_zone(0), carried=127), 'S 00 4 8'),  # phy 0's own group speaks, whatever is carried
+        (smp(0, phy_zone(0), carried=128), 'S 00 4 8'),
+        (smp(0, phy_zone(0), carried=136), 'S 00 4 8'),
+        (smp(0, phy_zone(0), carried=255), 'S 00 4 8'),
+        (smp(0, '40 10 00 00', carried=136), 'S 01 4 0'),
+        (smp(0, report(127, 5), carried=255), 'S 00 28 0'),
+        (smp(2, phy_zone(0), carried=136), 'S 02 4 0'),
+        (smp(0, single(8, ON + 9), carried=136), 'S 00 4 8'),
+        (primitive(2, 0), 'B 4'),
+    ],
+    'byte_3': [
+        (frame(7, 0x02, 127), 'B 1'),  # phy 0
+        (frame(7, 0x02, 128), 'X 5'),
+        (frame(7, 0x02, 136), 'X 5'),
+        (frame(7, 0x02, 255), 'X 5'),
+        (frame(7, 0x03, 136, length=4), 'X 5'),
+        (frame(7, 0x01, 136), 'X 5'),
+        (frame(7, 0x02, 136, length=27), 'X 4'),
+        (frame(0, 0x02, 136), 'X 6'),
+        (frame(2, 0x03, 255, length=4), 'X 6'),
+        (smp(0, single(8, ON + 9)), 'S 00 4 8'),
+        (frame(7, 0x02, 8), 'B 3'),
+        (frame(7, 0x02, 136), 'X 5'),
+        (open_to(7, address(4), byte20=0x88), 'O FWD 4'),  # byte 20 stays: group 8
+        (open_to(7, address(2), byte20=0xFF), 'O ZV'),
     ],
     'cut_header_1': [(bytes([LEAVING]), 'T')],
     'cut_header_4': [(leaving(2), 'L'), (bytes([9, 0, 0, 0]), 'T')],

@@ -2,6 +2,7 @@
 -- Assumes nothing.
 use mathlib.Core.Path.{refl}
 use Rattle.wire.specs.Address.{bigEndian, addressAt}
+use Rattle.wire.specs.Groups.{outsideGroup}
 use Rattle.wire.specs.Bits.{bit, setBit, tab}
 use Rattle.wire.specs.PhySet.{member, bitsOf, setByte, setOf, tally, physIn, some}
 use Rattle.permit.specs.Orders.{apply, rowOrders, batchOrders}
@@ -27,5 +28,5 @@ use Rattle.bench_text.specs.Stream.{ending, linesOf, wholeText}
 use Rattle.bench_text.specs.Cases.{fiveCases, fiveLines, Worked}
 
 pub worked : Worked
-unfolding bigEndian addressAt bit setBit tab member bitsOf setByte setOf tally physIn apply rowOrders batchOrders place P reaches setP setBoth startByte startTable outcome physSized routesSized arrivalChecks readySet emptySet firstRefusal openSource judge byte20 sent sameBytes zeroBytes findPhy findRoute search samePort some permitted permittedInPort told toldSet frameByte frameOf smpSource right replied operationChecks ordersOf permissionReply smpReply lengthField rack flat rackTable digits decimal line smpGives openGives primitiveGives gives eventGives eventLength ending linesOf wholeText fiveCases fiveLines
+unfolding bigEndian addressAt outsideGroup bit setBit tab member bitsOf setByte setOf tally physIn apply rowOrders batchOrders place P reaches setP setBoth startByte startTable outcome physSized routesSized arrivalChecks readySet emptySet firstRefusal openSource judge byte20 sent sameBytes zeroBytes findPhy findRoute search samePort some permitted permittedInPort told toldSet frameByte frameOf smpSource right replied operationChecks ordersOf permissionReply smpReply lengthField rack flat rackTable digits decimal line smpGives openGives primitiveGives gives eventGives eventLength ending linesOf wholeText fiveCases fiveLines
 worked = (refl, refl)

@@ -6,21 +6,23 @@ use mathlib.Core.List.{List, [], _∷_, _++_}
 use Prim.Native.Nat.{ℕ, zero, suc, _≤_}
 use native.Mathlib.Decide.{ℕ-discrete}
 use native.Mathlib.Omega.{arith}
-use lib.ListN.{length}
+use lib.ListN.{length, getD}
+use Rattle.wire.specs.Groups.{isGroup}
 use Rattle.wire.specs.Address.{addressAt}
 use Rattle.permit.specs.Permission.{permissionsSized}
-use Rattle.tables.specs.Refusals.{Check, refuse, below, same, differ, firstRefusal}
+use Rattle.tables.specs.Refusals.{Check, refuse, below, same, differ, off, firstRefusal}
 use Rattle.tables.specs.Outcome.{refusal, out, outcome}
 use Rattle.tables.specs.Arrival.{arrivalChecks}
 use Rattle.tables.proofs.RefusalLaws.{skipped}
 use Rattle.tables.proofs.ArrivalLaws.{numbered}
 use Rattle.links.specs.Links.{identified, identifyFront}
 use Rattle.zone_report.proofs.ReportLaws.{report-dwords-most}
+use Rattle.requests.specs.Requests.{smpSource}
 use Rattle.smp.specs.Smp.{functionOf, roomFor, requestChecks, smpReply, lengthField, smpChecks, valuesOf, buffersOf}
 use Rattle.smp.proofs.SmpLaws.{field-51, field-none}
 use Rattle.boundary.specs.C.{orElse}
 use Rattle.boundary.specs.Promises.{RefusedInC, AsDocument01, OtherLength, NoByte}
-use Rattle.boundary.proofs.Crossing.{stopped, behind}
+use Rattle.boundary.proofs.Crossing.{stopped, as-follows, behind}
 
 -- ---- a refused call
 pub refused-in-c : RefusedInC
@@ -52,18 +54,20 @@ module _ (w : ℕ) (phys permissions : List ℕ) (phy : ℕ) (request response s
   abbrev last8 : ℕ → List Check
   last8 carried = refuse 8 (below 255 (lengthField w phys permissions phy carried request)) ∷ []
 
-  -- document 01's rows come to the same without 8, so with any byte carried
-  without-8 : (byte : ℕ) → firstRefusal (smpChecks w phys permissions phy byte request (roomFor response set)) ≡ firstRefusal (shared ++ requestChecks request)
+  -- document 01's rows come to the same without 8
+  without-8 : (byte : ℕ) → firstRefusal (smpChecks w phys permissions phy byte request (roomFor response set)) ≡ firstRefusal (shared ++ requestChecks phys phy byte request)
   without-8 byte =
-      behind shared (requestChecks request ++ last8 byte) (requestChecks request)
-      (behind (requestChecks request) (last8 byte) []
+      behind shared (requestChecks phys phy byte request ++ last8 byte) (requestChecks phys phy byte request)
+      (behind (requestChecks phys phy byte request) (last8 byte) []
       (skipped 8 (below 255 (lengthField w phys permissions phy byte request)) [] (field-most w phys permissions phy byte request)))
 
 pub no-byte : NoByte
 unfolding arrivalChecks
 no-byte w phys permissions phy carried byte request response set h =
-    stopped (shared w phys permissions phy request response set ++ requestChecks request) 4 (below 255 carried) (last8 w phys permissions phy request response set carried) tt (λ k. h) _ _ _
-    ∙ ap (λ (m : ℕ). out (refusal (orElse m 5)) (phys ∷ permissions ∷ response ∷ set ∷ [])) (sym (without-8 w phys permissions phy request response set byte))
+    stopped (shared w phys permissions phy request response set ++ requestChecks phys phy carried request) 4 (below 255 carried) (last8 w phys permissions phy request response set carried) tt (λ k. h) _ _ _
+    ∙ ap (λ (m : ℕ). out (refusal m) (phys ∷ permissions ∷ response ∷ set ∷ []))
+    (as-follows (shared w phys permissions phy request response set ++ refuse 4 (below (length request) 4) ∷ refuse 5 (differ (getD request 0 0) 0x40) ∷ []) 4 (off (isGroup (smpSource phys phy carried))) (off (isGroup (smpSource phys phy byte)))
+    ∙ ap (λ (m : ℕ). orElse m 5) (sym (without-8 w phys permissions phy request response set byte)))
 
 -- ---- where document 01 has the input
 pub as-document-01 : AsDocument01
@@ -73,8 +77,8 @@ as-document-01 = (
   λ w phys permissions phy carried request response set h.
       ap (λ (m : ℕ). outcome m (valuesOf (smpReply w phys permissions phy carried request)) (phys ∷ permissions ∷ response ∷ set ∷ [])
       (buffersOf (functionOf request) (smpReply w phys permissions phy carried request) response set))
-      (behind (shared w phys permissions phy request response set) (requestChecks request ++ last8 w phys permissions phy request response set carried)
-      (requestChecks request ++ refuse 5 (below 255 carried) ∷ last8 w phys permissions phy request response set carried)
-      (behind (requestChecks request) (last8 w phys permissions phy request response set carried) (refuse 5 (below 255 carried) ∷ last8 w phys permissions phy request response set carried)
+      (behind (shared w phys permissions phy request response set) (requestChecks phys phy carried request ++ last8 w phys permissions phy request response set carried)
+      (requestChecks phys phy carried request ++ refuse 5 (below 255 carried) ∷ last8 w phys permissions phy request response set carried)
+      (behind (requestChecks phys phy carried request) (last8 w phys permissions phy request response set carried) (refuse 5 (below 255 carried) ∷ last8 w phys permissions phy request response set carried)
       (sym (skipped 5 (below 255 carried) _ h)))),
 )

@@ -1,11 +1,12 @@
 -- Outcomes for C: a refusal hides all that comes after its row, so a number that its own row refuses may be clamped first.
 -- Assumes nothing.
 use mathlib.Core.Path.{_≡_, refl, sym, ap, _∙_}
+use mathlib.Core.Bool.{Bool, true, false, cond}
 use mathlib.Core.List.{List, [], _∷_, _++_}
 use Prim.Native.Nat.{ℕ, zero, suc, min, _≤_, _<_}
 use native.Mathlib.Decide.{ℕ-discrete, decLt}
 use native.Mathlib.Omega.{arith}
-use Rattle.tables.specs.Refusals.{Test, Check, refuse, firstRefusal, Clear}
+use Rattle.tables.specs.Refusals.{Test, holds, Check, refuse, firstRefusal, Clear}
 use Rattle.tables.specs.Outcome.{Answer, refusal, Out, out, outcome}
 use Rattle.tables.proofs.RefusalLaws.{Holds, Numbered, first, here, clear, front, back}
 use Rattle.tables.proofs.OutcomeLaws.{refused-keeps}
@@ -47,6 +48,21 @@ module _ (pre : List Check) (n : ℕ) (t : Test) (xs : List Check) (k : Numbered
   stopped values old new =
       refused-keeps (firstRefusal (pre ++ refuse (suc n) t ∷ xs)) values old new (λ z. else-some (firstRefusal pre) n (sym stops ∙ z))
       ∙ ap (λ (m : ℕ). out (refusal m) old) stops
+
+-- ---- a row of the number that follows anyway decides nothing
+pub as-follows : (pre : List Check) (n : ℕ) (t u : Test)
+    → orElse (firstRefusal (pre ++ refuse (suc n) t ∷ [])) (suc n) ≡ orElse (firstRefusal (pre ++ refuse (suc n) u ∷ [])) (suc n)
+unfolding firstRefusal orElse
+as-follows [] n t u = last (holds t) ∙ sym (last (holds u))
+  where
+    last : (b : Bool) → orElse (cond b (suc n) 0) (suc n) ≡ suc n
+    last true = refl
+    last false = refl
+as-follows (refuse m s ∷ pre) n t u = either (holds s) _ _ (as-follows pre n t u)
+  where
+    either : (b : Bool) (x y : ℕ) → orElse x (suc n) ≡ orElse y (suc n) → orElse (cond b m x) (suc n) ≡ orElse (cond b m y) (suc n)
+    either true x y e = refl
+    either false x y e = e
 
 -- ---- rows may be exchanged for others that come to the same, behind any
 pub behind : (pre xs ys : List Check) → firstRefusal xs ≡ firstRefusal ys → firstRefusal (pre ++ xs) ≡ firstRefusal (pre ++ ys)

@@ -65,11 +65,11 @@ abbrev pub identifyOutC : List ℕ → ℕ → List ℕ → Out
 identifyOutC phys phy address =
     outcome (firstRefusal (identifyChecksC phys phy address)) [] (phys ∷ []) (identified phys phy address ∷ [])
 
--- "carried 256 or more is no byte: refused as 5, after the other causes of 5"
+-- "carried 256 or more is no byte: refused as 5 on any phy, after the other causes of 5"
 abbrev pub smpChecksC : ℕ → List ℕ → List ℕ → ℕ → ℕ → List ℕ → Bool → List Check
 smpChecksC w phys permissions phy carried request room =
     arrivalChecks phys phy (permissionsSized w permissions) room true
-    ++ (requestChecks request
+    ++ (requestChecks phys phy carried request
     ++ refuse 5 (below 255 carried)
     ∷ refuse 8 (below 255 (lengthField w phys permissions phy carried request))
     ∷ [])

@@ -29,7 +29,7 @@ OtherLength =
     (phys : List ℕ) (phy : ℕ) (address : List ℕ) → (length address ≡ 8 → ⊥)
     → identifyOutC phys phy address ≡ out (refusal (orElse (firstRefusal (identifyFront phys phy)) 4)) (phys ∷ [])
 
--- "carried 256 or more is no byte: refused as 5, after the other causes of 5": as document 01 refuses the request with any byte in its place,
+-- "carried 256 or more is no byte: refused as 5 on any phy, after the other causes of 5": as document 01 refuses the request with any byte in its place,
 -- else as 5
 abbrev pub NoByte : Type 0
 NoByte =

@@ -261,8 +261,8 @@ pub fn broadcast_frame_c(
     ))
 }
 
-// `carried` is not clamped: 255 would name a group. A wider number is refused after every other cause; the byte that the checks get in
-// its place decides none of them.
+// `carried` is not clamped: on a phy that is not participating 255 is answered. A wider number is refused as 5 after every other cause; the
+// byte that the checks get in its place can only add another 5.
 pub fn smp_c(
     width: usize,
     phys: &mut [u8],

@@ -1,31 +1,37 @@
 -- Broadcasts: what is known where nothing is refused; the count; the frame; the calls' ends.
 -- Assumes nothing.
 use mathlib.Core.Path.{_≡_, refl, sym, ap, ap₂, _∙_}
-use mathlib.Core.Bool.{Bool, true, false}
+use mathlib.Core.Bool.{Bool, true, false, not, _&&_, and-false}
 use mathlib.Core.List.{List, [], _∷_, _++_}
 use Prim.Native.Nat.{ℕ, zero, suc, _+_, _-_, _*_, _%_, _≤_, _<_}
 use native.Mathlib.Nat.{zero-add}
 use native.Mathlib.Decide.{ℕ-discrete}
 use native.Mathlib.Omega.{arith}
-use borrow.Author.Tests.{leb-true, eq-eqb, ne-eqb}
+use borrow.Author.Tests.{leb-true, eq-eqb, ne-eqb, not-true, not-false}
 use lib.Dec.{leb}
 use lib.ListN.{length, set, drop}
 use Rattle.wire.specs.Bits.{tab}
-use Rattle.wire.specs.Groups.{groupOf}
+use Rattle.wire.specs.declared.ZoneGroup.{ZoneGroup}
+use Rattle.wire.specs.declared.OutsideGroup.{OutsideGroup}
+use Rattle.wire.specs.declared.OutsideGroup.the-variants.{Group, NoGroup}
+use Rattle.wire.specs.Groups.{groupOf, outsideGroup}
 use Rattle.wire.specs.PhySet.{tally, physIn}
+use Rattle.wire.proofs.GroupLaws.{outside-number, taken-group, taken-none}
 use Rattle.wire.proofs.Loops.{Filled, fill-end}
 use Rattle.wire.proofs.Sets.{member-setOf, count-front, tally-le, tally-add}
 use Rattle.permit.specs.Permission.{permissionsSized, Width}
 use Rattle.permit.proofs.Laws.{table-sized}
-use Rattle.tables.specs.Refusals.{refuse, below, firstRefusal, Clear}
-use Rattle.tables.specs.Phys.{phyCount}
+use Rattle.tables.specs.Refusals.{Check, refuse, below, firstRefusal, Clear}
+use Rattle.tables.specs.Phys.{phyCount, participating}
+use Rattle.tables.specs.Arrival.{arrivalChecks}
+use Rattle.tables.proofs.RefusalLaws.{none, here, next, first, agrees-not, front, back}
 use Rattle.tables.proofs.ArrivalLaws.{both, Arrived, arrival-clear}
-use Rattle.tables.specs.Outcome.{answer, out}
-use Rattle.tables.proofs.OutcomeLaws.{gives}
+use Rattle.tables.specs.Outcome.{refusal, answer, Out, out}
+use Rattle.tables.proofs.OutcomeLaws.{refuses, gives}
 use Rattle.broadcasts.specs.Inner.{Lent, Announced}
 use Rattle.told_set.proofs.ToldLaws.{told-out, told-self, length-told}
 use Rattle.told_set.specs.ToldSet.{toldSet}
-use Rattle.broadcasts.specs.Broadcasts.{frameByte, frameOf, announced, roomFor, primitiveChecks, frameChecks, typeOf, typedLength}
+use Rattle.broadcasts.specs.Broadcasts.{frameByte, frameOf, announced, roomFor, primitiveChecks, typeOf, typedLength, typeChecks, frameSource, frameNumber, carriedChecks, broadcastOut}
 
 -- ---- a frame that is not refused has a type, and so four bytes at least
 pub typed-long : (arrived : List ℕ) → length arrived ≡ typedLength arrived → 2 ≤ typeOf arrived → typeOf arrived ≤ 3 → 4 ≤ length arrived
@@ -37,6 +43,10 @@ typed-long arrived e l h = go (ℕ-discrete (typeOf arrived) 2)
     go (no n) =
         let p : typeOf arrived ≡ 3 = omega arith in
         let q : length arrived ≡ 4 = e ∙ rw (ne-eqb (typeOf arrived) 2 n, eq-eqb (typeOf arrived) 3 p) in omega arith
+
+-- the rows of a frame up to its type's
+abbrev frameFront : ℕ → List ℕ → List ℕ → ℕ → List ℕ → Bool → List Check
+frameFront w phys permissions phy arrived room = arrivalChecks phys phy (permissionsSized w permissions) room true ++ typeChecks arrived
 
 -- ---- where nothing is refused: r is the number that the checks answered
 module _ (w : ℕ) (phys permissions : List ℕ) (phy : ℕ) (set frame : List ℕ) (r : ℕ) (z : r ≡ 0) where
@@ -65,7 +75,7 @@ module _ (w : ℕ) (phys permissions : List ℕ) (phy : ℕ) (set frame : List �
     pub primitive-small : number < 8
     primitive-small = let k = primitive-clear .1 in omega arith
 
-  module _ (arrived : List ℕ) (e : r ≡ firstRefusal (frameChecks w phys permissions phy arrived (roomFor set frame))) where
+  module _ (arrived : List ℕ) (e : r ≡ firstRefusal (frameFront w phys permissions phy arrived (roomFor set frame))) where
     frame-clear : Arrived phys phy (permissionsSized w permissions) (roomFor set frame) true × (4 ≤ length arrived)
     frame-clear =
         let k = arrival-clear phys phy (permissionsSized w permissions) (roomFor set frame) true _ r e z tt in
@@ -135,3 +145,55 @@ module _ (w : ℕ) (phys permissions : List ℕ) (phy source number : ℕ) (set 
   pub announce-from : (s count : ℕ) (set₁ frame₁ : List ℕ) → s ≡ source → Announced w phys permissions phy s number set frame count set₁ frame₁
       → Announced w phys permissions phy source number set frame count set₁ frame₁
   announce-from s count set₁ frame₁ e a = rw (sym e) a
+
+-- ---- of two that are asked together
+first-off : (a b : Bool) → a ≡ false → (a && b) ≡ false
+first-off a b e = rw e
+
+second-off : (a b : Bool) → b ≡ false → (a && b) ≡ false
+second-off a b e = rw e (and-false a)
+
+both-on : (a b : Bool) → a ≡ true → b ≡ true → (a && b) ≡ true
+both-on a b e f = rw (e, f)
+
+-- ---- `relay_frame`, by its ways out: p is whether the phy is participating, o what byte 3 names
+module _ (w : ℕ) (phys permissions : List ℕ) (phy : ℕ) (arrived set frame : List ℕ) (p : Bool) (ep : p ≡ participating phys phy) where
+  abbrev relayed : Out
+  relayed = announced w (firstRefusal (carriedChecks phys phy arrived)) phys permissions phy (frameSource arrived) (frameNumber arrived) set frame
+
+  -- on a phy that is not participating, whatever byte 3 is
+  pub frame-alone : not p ≡ true → out (refusal 6) (set ∷ frame ∷ []) ≡ relayed
+  frame-alone h = refuses _ 6 _ _ _ (first (next (first-off _ _ (sym ep ∙ not-true p h)) (here (agrees-not ep h)))) (λ q. omega arith)
+
+  module _ (h : not p ≡ false) (o : OutsideGroup) (eo : o ≡ outsideGroup (frameSource arrived)) where
+    pub frame-none : o ≡ NoGroup → out (refusal 5) (set ∷ frame ∷ []) ≡ relayed
+    frame-none s = refuses _ 5 _ _ _ (first (here (both-on _ _ (sym ep ∙ not-false p h) (taken-none eo s)))) (λ q. omega arith)
+
+    pub frame-from : (g : ZoneGroup) (count : ℕ) (set₁ frame₁ : List ℕ) → o ≡ Group g
+        → Announced w phys permissions phy (g .0) (frameNumber arrived) set frame count set₁ frame₁
+        → out (answer (count ∷ [])) (set₁ ∷ frame₁ ∷ []) ≡ relayed
+    frame-from g count set₁ frame₁ s a =
+        announce-gives w phys permissions phy (frameSource arrived) (frameNumber arrived) set frame 0 _ count set₁ frame₁
+        (first (next (second-off (participating phys phy) _ (taken-group eo s)) (next (agrees-not ep h) none)))
+        refl
+        (announce-from w phys permissions phy (frameSource arrived) (frameNumber arrived) set frame (g .0) count set₁ frame₁ (outside-number _ g (sym eo ∙ s) .0) a)
+
+-- ---- the frame's call: r is the number of the rows up to the type's
+module _ (w : ℕ) (phys permissions : List ℕ) (phy : ℕ) (arrived set frame : List ℕ) (r : ℕ)
+    (e : r ≡ firstRefusal (frameFront w phys permissions phy arrived (roomFor set frame))) where
+  pub frame-refused : (r ≡ 0 → ⊥) → out (refusal r) (set ∷ frame ∷ []) ≡ broadcastOut w phys permissions phy arrived set frame
+  unfolding arrivalChecks
+  frame-refused h = refuses _ r _ _ _ (front (frameFront w phys permissions phy arrived (roomFor set frame)) _ r e h) h
+
+  pub frame-gives : r ≡ 0 → (x : Out)
+      → x ≡ announced w (firstRefusal (carriedChecks phys phy arrived)) phys permissions phy (frameSource arrived) (frameNumber arrived) set frame
+      → x ≡ broadcastOut w phys permissions phy arrived set frame
+  unfolding arrivalChecks
+  frame-gives z x q =
+      q
+      ∙ ap (λ (n : ℕ). announced w n phys permissions phy (frameSource arrived) (frameNumber arrived) set frame)
+      (back (frameFront w phys permissions phy arrived (roomFor set frame)) (carriedChecks phys phy arrived) r _ tt e z refl)
+
+-- a group from outside is below 128
+pub group-small : (g : ZoneGroup) (o : OutsideGroup) (b : ℕ) → o ≡ outsideGroup b → o ≡ Group g → g .0 < 128
+group-small g o b e s = let k = outside-number b g (sym e ∙ s) in omega arith

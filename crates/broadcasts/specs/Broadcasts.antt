@@ -5,10 +5,10 @@ use Prim.Native.Nat.{ℕ, _+_, _*_, _/_, _%_}
 use lib.Dec.{eqb, leb}
 use lib.ListN.{length, getD, drop}
 use Rattle.wire.specs.Bits.{tab}
-use Rattle.wire.specs.Groups.{outsideGroup}
+use Rattle.wire.specs.Groups.{outsideGroup, isGroup}
 use Rattle.wire.specs.PhySet.{physIn}
 use Rattle.permit.specs.Permission.{permissionsSized}
-use Rattle.tables.specs.Refusals.{Check, refuse, below, same, differ, off, firstRefusal}
+use Rattle.tables.specs.Refusals.{Check, refuse, below, same, differ, off, on, firstRefusal}
 use Rattle.tables.specs.Outcome.{Answer, refusal, answer, Out, outcome}
 use Rattle.tables.specs.Phys.{phyGroup, participating}
 use Rattle.tables.specs.Arrival.{arrivalChecks}
@@ -60,24 +60,35 @@ typeOf arrived = getD arrived 0 0 % 16
 unfoldable pub typedLength : List ℕ → ℕ
 typedLength arrived = cond (eqb (typeOf arrived) 2) 28 (cond (eqb (typeOf arrived) 3) 4 (length arrived))
 
--- refusals 1, 2, 3, 7, 4, 5 ("broadcast type not 2h or 3h") and 6 ("broadcast frame on a phy that is not participating")
-abbrev pub frameChecks : ℕ → List ℕ → List ℕ → ℕ → List ℕ → Bool → List Check
-frameChecks w phys permissions phy arrived room =
-    arrivalChecks phys phy (permissionsSized w permissions) room true
-    ++ refuse 4 (same (length arrived) 0)
+-- refusals 4 and 5 ("broadcast type not 2h or 3h")
+abbrev pub typeChecks : List ℕ → List Check
+typeChecks arrived =
+    refuse 4 (same (length arrived) 0)
     ∷ refuse 4 (differ (length arrived) (typedLength arrived))
     ∷ refuse 5 (below (typeOf arrived) 2)
     ∷ refuse 5 (below 3 (typeOf arrived))
-    ∷ refuse 6 (off (participating phys phy))
     ∷ []
 
 -- "A frame carries it in byte 0 bits 6..4."
 abbrev pub frameNumber : List ℕ → ℕ
 frameNumber arrived = getD arrived 0 0 / 16 % 8
 
--- "on a participating phy, it is the group carried: .. in a broadcast frame those of byte 3"
+-- "on a participating phy, it is the group carried": in a broadcast frame byte 3, where that is a group
 abbrev pub frameSource : List ℕ → ℕ
-frameSource arrived = outsideGroup (getD arrived 3 0)
+frameSource arrived = getD arrived 3 0
+
+-- document 02, request 02: a frame byte above 127, "on a participating phy, is refusal 5, after the present causes of 5"; and 6 ("broadcast
+-- frame on a phy that is not participating")
+abbrev pub carriedChecks : List ℕ → ℕ → List ℕ → List Check
+carriedChecks phys phy arrived =
+    refuse 5 (on (participating phys phy && not (isGroup (outsideGroup (frameSource arrived)))))
+    ∷ refuse 6 (off (participating phys phy))
+    ∷ []
+
+-- refusals 1, 2, 3, 7, then 4 and 5, and 5 and 6
+abbrev pub frameChecks : ℕ → List ℕ → List ℕ → ℕ → List ℕ → Bool → List Check
+frameChecks w phys permissions phy arrived room =
+    arrivalChecks phys phy (permissionsSized w permissions) room true ++ (typeChecks arrived ++ carriedChecks phys phy arrived)
 
 abbrev pub broadcastOut : ℕ → List ℕ → List ℕ → ℕ → List ℕ → List ℕ → List ℕ → Out
 broadcastOut w phys permissions phy arrived set frame =

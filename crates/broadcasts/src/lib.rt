@@ -1,16 +1,19 @@
 // Broadcasts: a primitive, or a broadcast frame, arrives on a phy.
 use tables::READY;
+use wire::OutsideGroup;
 use wire::PhyNumber;
 use wire::ZoneGroup;
 ghost use mathlib.Core.Path.{_≡_};
+ghost use mathlib.Core.Bool.{true};
 ghost use mathlib.Core.List.{[], _∷_, _++_};
 ghost use Prim.Native.Nat.{_<_, _≤_};
 ghost use lib.ListN.{length, drop};
-ghost use Rattle.permit.specs.Permission.{Width};
+ghost use Rattle.permit.specs.Permission.{permissionsSized, Width};
 ghost use Rattle.tables.specs.Refusals.{firstRefusal};
+ghost use Rattle.tables.specs.Arrival.{arrivalChecks};
 ghost use Rattle.tables.specs.Outcome.{out};
 ghost use Rattle.tables.specs.Phys.{phyGroup};
-ghost use Rattle.broadcasts.specs.Broadcasts.{toldAs, frameOf, primitiveChecks, primitiveOut, typedLength, frameChecks, frameSource, frameNumber, broadcastOut};
+ghost use Rattle.broadcasts.specs.Broadcasts.{toldAs, frameOf, primitiveChecks, primitiveOut, announced, typedLength, typeChecks, carriedChecks, frameSource, frameNumber, broadcastOut};
 ghost use Rattle.broadcasts.specs.Inner.{Lent, Announced};
 
 pub enum Told {
@@ -55,6 +58,7 @@ fn typed_length(arrived: &[u8]) -> usize
     arrived.len()
 }
 
+// What an arriving frame's length and type are refused for.
 fn frame_refusal(
     width: usize,
     phys: &[u8],
@@ -64,7 +68,7 @@ fn frame_refusal(
     room: bool,
 ) -> u8
     requires { ⌜ Width width ⌝ }
-    ensures { λ r. ⌜ r ≡ firstRefusal (frameChecks width (now (phys .entry)) (now (permissions .entry)) (phy .0) (now (arrived .entry)) room) ⌝ }
+    ensures { λ r. ⌜ r ≡ firstRefusal (arrivalChecks (now (phys .entry)) (phy .0) (permissionsSized width (now (permissions .entry))) room true ++ typeChecks (now (arrived .entry))) ⌝ }
 {
     let sizes = permit::permissions_sized(width, permissions);
     let no = tables::arrival_refusal(phys, phy, sizes, room, READY);
@@ -82,9 +86,6 @@ fn frame_refusal(
     }
     if 3 < arrived[0] % 16 {
         return 5;
-    }
-    if !tables::is_participating(phys, phy) {
-        return 6;
     }
     0
 }
@@ -141,7 +142,7 @@ fn relay_primitive(
     announce(width, phys, permissions, phy, source, number, set, frame)
 }
 
-// A frame that is not refused: the group carried in its byte 3 is speaking.
+// A frame of the right length and type: on a participating phy the group carried in its byte 3 is speaking.
 fn relay_frame(
     width: usize,
     phys: &[u8],
@@ -150,13 +151,18 @@ fn relay_frame(
     arrived: &[u8],
     set: &mut [u8],
     frame: &mut [u8],
-) -> u8
+) -> Told
     requires { ⌜ Lent width (now phys) (now permissions) (phy .0) (now set) (now frame) × (4 ≤ length (now arrived)) ⌝ }
-    ensures { λ r. ⌜ Announced width (now (phys .entry)) (now (permissions .entry)) (phy .0) (frameSource (now (arrived .entry))) (frameNumber (now (arrived .entry))) (now (set .entry)) (now (frame .entry)) r (now (set .exit)) (now (frame .exit)) ⌝ }
+    ensures { λ r. ⌜ out (toldAs r) (now (set .exit) ∷ now (frame .exit) ∷ []) ≡ announced width (firstRefusal (carriedChecks (now (phys .entry)) (phy .0) (now (arrived .entry)))) (now (phys .entry)) (now (permissions .entry)) (phy .0) (frameSource (now (arrived .entry))) (frameNumber (now (arrived .entry))) (now (set .entry)) (now (frame .entry)) ⌝ }
 {
-    let source = wire::outside_group(arrived[3]);
+    if !tables::is_participating(phys, phy) {
+        return Told::Refused(6);
+    }
+    let OutsideGroup::Group(source) = wire::outside_group(arrived[3]) else {
+        return Told::Refused(5);
+    };
     let number = arrived[0] / 16 % 8;
-    announce(width, phys, permissions, phy, source, number, set, frame)
+    Told::Count(announce(width, phys, permissions, phy, source, number, set, frame))
 }
 
 // A primitive arrives on a phy; the permission table has rows of `width` bytes.
@@ -212,7 +218,7 @@ pub fn broadcast_frame_at(
     if no != 0 {
         return Told::Refused(no);
     }
-    Told::Count(relay_frame(width, phys, permissions, phy, arrived, set, frame))
+    relay_frame(width, phys, permissions, phy, arrived, set, frame)
 }
 
 // A broadcast frame arrives on a phy; the table is document 01's.

@@ -10,8 +10,9 @@ use native.Mathlib.Omega.{arith}
 use mir.Syntax.{w8}
 use mir.Val.{Fits}
 use borrow.Author.Tests.{lt-ltb, le-ltb, eq-eqb, ne-eqb}
+use Rattle.wire.specs.Groups.{isGroup}
 use Rattle.tables.specs.Phys.{phyCount, phyPriority, phyAddress, ready}
-use Rattle.tables.specs.Routes.{routeCount, routePriority, routeAddress}
+use Rattle.tables.specs.Routes.{routeCount, routeGroup, routePriority, routeAddress}
 use Rattle.election.specs.declared.Candidate.{Candidate}
 use Rattle.election.specs.Election.{fit, candidate, phyCandidate, phyCandidates, routeCandidate, routeCandidates, candidates, beats, better, best, nobody, elected, Greatest}
 
@@ -146,7 +147,7 @@ unfolding AboveZero routeCandidates
 routes-above routes i zero = tt
 routes-above routes i (suc n) =
     zero-append (routeCandidate routes i) (routeCandidates routes (suc i) n)
-    (one-above true (routePriority routes i) (routeAddress routes i))
+    (one-above (isGroup (routeGroup routes i)) (routePriority routes i) (routeAddress routes i))
     (routes-above routes (suc i) n)
 
 over-nobody : (c : Candidate) (cs : List Candidate) → 0 < c .priority → best nobody (c ∷ cs) ≡ best c cs
@@ -209,7 +210,7 @@ small-phys phys i (suc n) = small-append (phyCandidate phys i) (phyCandidates ph
 small-routes : (routes : List ℕ) (i n : ℕ) → Small (routeCandidates routes i n)
 unfolding routeCandidates
 small-routes routes i zero = tt
-small-routes routes i (suc n) = small-append (routeCandidate routes i) (routeCandidates routes (suc i) n) (small-candidate (fit (routePriority routes i) (routeAddress routes i)) (routePriority routes i) (routeAddress routes i) (omega arith)) (small-routes routes (suc i) n)
+small-routes routes i (suc n) = small-append (routeCandidate routes i) (routeCandidates routes (suc i) n) (small-candidate (isGroup (routeGroup routes i) && fit (routePriority routes i) (routeAddress routes i)) (routePriority routes i) (routeAddress routes i) (omega arith)) (small-routes routes (suc i) n)
 
 small-better : (x : Bool) (c b : Candidate) → c .priority < 16 → b .priority < 16 → (cond x c b) .priority < 16
 small-better true c b hc hb = hc

@@ -8,6 +8,10 @@ use native.Mathlib.Nat.{sub-zero}
 use native.Mathlib.Numerals.{add-one}
 use native.Mathlib.Omega.{arith}
 use borrow.Author.Tests.{lt-ltb, le-ltb, eq-eqb, ne-eqb, not-true, not-false}
+use Rattle.wire.specs.declared.ZoneGroup.{ZoneGroup}
+use Rattle.wire.specs.declared.OutsideGroup.{OutsideGroup}
+use Rattle.wire.specs.declared.OutsideGroup.the-variants.{Group, NoGroup}
+use Rattle.wire.specs.Groups.{isGroup}
 use Rattle.wire.proofs.Loops.{left}
 use lib.ListN.{length}
 use Rattle.tables.specs.Refusals.{firstRefusal}
@@ -60,29 +64,31 @@ unfolding best
 lower b true q p a e h = less b p a (omega arith) (λ i. omega arith)
 lower b false q p a e h = refl
 
+-- nor is one of priority 0
+pub zero-priority : (b : Candidate) (v : Bool) (q p a : ℕ) → q ≡ p → q ≡ 0 → b ≡ best b (candidate (v && fit p a) p a)
+unfolding best
+zero-priority b true q p a i z = let l : p ≤ 0 = omega arith in rw (le-ltb 0 p l)
+zero-priority b false q p a i z = refl
+
 -- ---- `with_phy`, where k tells whether the phy is ready
 pub not-ready : (b : Candidate) (k v w : Bool) (p a : ℕ) → k ≡ v → not k ≡ true → b ≡ best b (candidate (v && w) p a)
 unfolding best
 not-ready b k v w p a e h = let f : k ≡ false = not-true k h in rw (← e, f)
-
-pub phy-zero : (b : Candidate) (k v : Bool) (q p a : ℕ) → k ≡ v → not k ≡ false → q ≡ p → q ≡ 0
-    → b ≡ best b (candidate (v && fit p a) p a)
-unfolding best
-phy-zero b k v q p a e h i z = let t : k ≡ true = not-false k h in let l : p ≤ 0 = omega arith in rw (← e, t, le-ltb 0 p l)
 
 pub phy-considered : (b r : Candidate) (k v : Bool) (q x p a : ℕ) → k ≡ v → not k ≡ false → q ≡ p → x ≡ a
     → r ≡ best b (candidate (fit q x) q x)
     → r ≡ best b (candidate (v && fit p a) p a)
 phy-considered b r k v q x p a e h i j g = let t : k ≡ true = not-false k h in rw (← e, t, ← i, ← j) g
 
--- ---- `with_route`
-pub route-zero : (b : Candidate) (q p a : ℕ) → q ≡ p → q ≡ 0 → b ≡ best b (candidate (fit p a) p a)
+-- ---- `with_route`, where o is what its group byte names
+pub no-group : (b : Candidate) (o m : OutsideGroup) (w : Bool) (p a : ℕ) → o ≡ m → o ≡ NoGroup → b ≡ best b (candidate (isGroup m && w) p a)
 unfolding best
-route-zero b q p a i z = let l : p ≤ 0 = omega arith in rw (le-ltb 0 p l)
+no-group b o m w p a e n = rw (← e, n)
 
-pub route-considered : (b r : Candidate) (q x p a : ℕ) → q ≡ p → x ≡ a → r ≡ best b (candidate (fit q x) q x)
-    → r ≡ best b (candidate (fit p a) p a)
-route-considered b r q x p a i j g = rw (← i, ← j) g
+pub route-considered : (b r : Candidate) (o m : OutsideGroup) (g : ZoneGroup) (q x p a : ℕ) → o ≡ m → o ≡ Group g → q ≡ p → x ≡ a
+    → r ≡ best b (candidate (fit q x) q x)
+    → r ≡ best b (candidate (isGroup m && fit p a) p a)
+route-considered b r o m g q x p a e s i j k = rw (← e, s, ← i, ← j) k
 
 -- ---- the best of two lists is carried from the first into the second
 pub best-append : (b : Candidate) (cs ds : List Candidate) → best b (cs ++ ds) ≡ best (best b cs) ds

@@ -5,10 +5,11 @@ use mathlib.Core.List.{List, [], _∷_, _++_, List·Memᴰ}
 use mathlib.Core.Logic.{_⊎_}
 use Prim.Native.Nat.{ℕ, zero, suc}
 use lib.Dec.{eqb, ltb}
+use Rattle.wire.specs.Groups.{isGroup}
 use Rattle.tables.specs.Refusals.{Check, refuse, off, firstRefusal}
 use Rattle.tables.specs.Outcome.{Answer, refusal, answer, Out, outcome}
 use Rattle.tables.specs.Phys.{phyCount, physSized, phyPriority, phyAddress, ready}
-use Rattle.tables.specs.Routes.{routeCount, routesSized, routePriority, routeAddress}
+use Rattle.tables.specs.Routes.{routeCount, routesSized, routeGroup, routePriority, routeAddress}
 use Rattle.election.specs.declared.Candidate.{Candidate}
 use Rattle.election.specs.declared.Elected.{Elected}
 use Rattle.election.specs.declared.Elected.the-variants.{Refused, Supervisor}
@@ -36,9 +37,10 @@ unfoldable pub phyCandidates : List ℕ → ℕ → ℕ → List Candidate
 phyCandidates phys i zero = []
 phyCandidates phys i (suc n) = phyCandidate phys i ++ phyCandidates phys (suc i) n
 
--- "and route records": record i
+-- "and route records": record i; where its byte 9 is no group "Such a route record is skipped .. in the election."
 abbrev pub routeCandidate : List ℕ → ℕ → List Candidate
-routeCandidate routes i = candidate (fit (routePriority routes i) (routeAddress routes i)) (routePriority routes i) (routeAddress routes i)
+routeCandidate routes i =
+    candidate (isGroup (routeGroup routes i) && fit (routePriority routes i) (routeAddress routes i)) (routePriority routes i) (routeAddress routes i)
 
 -- the n records from i on
 unfoldable pub routeCandidates : List ℕ → ℕ → ℕ → List Candidate

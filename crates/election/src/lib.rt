@@ -2,6 +2,7 @@
 use tables::PHY_RECORD;
 use tables::ROUTE_RECORD;
 use tables::WRONG_SIZE;
+use wire::OutsideGroup;
 use wire::PhyNumber;
 ghost use mathlib.Core.Path.{_≡_};
 ghost use mathlib.Core.List.{[]};
@@ -98,7 +99,7 @@ fn with_phy(b: Candidate, phys: &[u8], phy: PhyNumber) -> Candidate
     consider(b, priority, tables::phy_address(phys, phy))
 }
 
-// The best of b and a route record, likewise.
+// The best of b and a route record, likewise; one of no group is skipped.
 fn with_route(b: Candidate, routes: &[u8], i: usize) -> Candidate
     requires { ⌜ i < routeCount (now routes) ⌝ }
     ensures { λ r. ⌜ r ≡ best b (routeCandidate (now (routes .entry)) i) ⌝ }
@@ -110,6 +111,9 @@ fn with_route(b: Candidate, routes: &[u8], i: usize) -> Candidate
     if priority == 0 {
         return b;
     }
+    let OutsideGroup::Group(_) = tables::route_group(routes, i) else {
+        return b;
+    };
     consider(b, priority, tables::route_address(routes, i))
 }
 

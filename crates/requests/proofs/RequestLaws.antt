@@ -7,19 +7,33 @@ use Prim.Native.Nat.{ℕ, zero, suc, _+_, _≤_}
 use native.Mathlib.Omega.{arith}
 use lib.ListN.{length, drop, set}
 use lib.Seq.{sets-eq}
+use Rattle.wire.specs.declared.ZoneGroup.{ZoneGroup}
+use Rattle.wire.specs.declared.OutsideGroup.{OutsideGroup}
+use Rattle.wire.specs.declared.OutsideGroup.the-variants.{Group, NoGroup}
 use Rattle.wire.specs.Groups.{outsideGroup}
+use Rattle.permit.specs.Permission.{reaches}
 use Rattle.tables.specs.Phys.{phyGroup, participating, emptySet}
-use Rattle.requests.specs.Requests.{smpSource, Reply, turnedDown, replied, Leaves}
+use Rattle.requests.specs.Requests.{smpSource, right, Reply, turnedDown, replied, Leaves}
 
 -- who is speaking, by each way out of the function that answers it
-module _ (phys : List ℕ) (phy carried x : ℕ) (p : Bool) (e : p ≡ participating phys phy) where
-  pub source-carried : p ≡ true → x ≡ outsideGroup carried → x ≡ smpSource phys phy carried
+module _ (phys : List ℕ) (phy carried : ℕ) (p : Bool) (e : p ≡ participating phys phy) where
+  pub source-carried : (o : OutsideGroup) → p ≡ true → o ≡ outsideGroup carried → o ≡ smpSource phys phy carried
   unfolding smpSource
-  source-carried t ex = rw (sym e ∙ t) ex
+  source-carried o t eo = rw (sym e ∙ t) eo
 
-  pub source-own : p ≡ false → x ≡ phyGroup phys phy → x ≡ smpSource phys phy carried
+  pub source-own : (g : ZoneGroup) → p ≡ false → g .0 ≡ phyGroup phys phy → Group g ≡ smpSource phys phy carried
   unfolding smpSource
-  source-own t ex = rw (sym e ∙ t) ex
+  source-own g t eg = rw (sym e ∙ t) (ap (λ (x : ℕ). Group (record { 0 = x })) eg)
+
+-- the right of who is speaking
+module _ (w : ℕ) (phys permissions : List ℕ) (phy carried : ℕ) (o : OutsideGroup) (e : o ≡ smpSource phys phy carried) where
+  pub right-none : o ≡ NoGroup → false ≡ right w phys permissions phy carried
+  unfolding right
+  right-none n = rw (sym e ∙ n)
+
+  pub right-group : (g : ZoneGroup) (r : Bool) → o ≡ Group g → r ≡ reaches w permissions (g .0) 2 → r ≡ right w phys permissions phy carried
+  unfolding right
+  right-group g r s er = rw (sym e ∙ s) er
 
 -- four bytes at the head of a buffer
 pub head-set : (l : List ℕ) (a b c d : ℕ) → 4 ≤ length l → set (set (set (set l 0 a) 1 b) 2 c) 3 d ≡ (a ∷ b ∷ c ∷ d ∷ []) ++ drop 4 l

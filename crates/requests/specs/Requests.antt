@@ -1,21 +1,29 @@
 -- "SMP": what every request and response has. "Below, M is the request's length and L its byte 3."
 use mathlib.Core.Path.{_≡_}
-use mathlib.Core.Bool.{Bool, cond}
+use mathlib.Core.Bool.{Bool, false, cond}
 use mathlib.Core.List.{List, [], _∷_, _++_}
 use Prim.Native.Nat.{ℕ, zero, suc, _+_, _*_, _/_, _%_, _≤_, _<_}
 use lib.ListN.{length, drop}
+use Rattle.wire.specs.declared.OutsideGroup.{OutsideGroup}
+use Rattle.wire.specs.declared.OutsideGroup.the-variants.{Group, NoGroup}
 use Rattle.wire.specs.Groups.{outsideGroup}
 use Rattle.permit.specs.Permission.{reaches, Table}
 use Rattle.tables.specs.Phys.{phyRecord, phyCount, phyGroup, participating, emptySet}
 
 -- "The source group .. of anything arriving on a phy that is not participating, is the phy record's group. For the rest, on a participating
--- phy, it is the group carried: .. for SMP the low 7 bits of a byte that the caller took from the connection's OPEN"
-unfoldable pub smpSource : List ℕ → ℕ → ℕ → ℕ
-smpSource phys phy carried = cond (participating phys phy) (outsideGroup carried) (phyGroup phys phy)
+-- phy, it is the group carried": for SMP a byte that the caller took from the connection's OPEN, of which document 02, request 02, says that
+-- "a byte above 127 is no group"
+unfoldable pub smpSource : List ℕ → ℕ → ℕ → OutsideGroup
+smpSource phys phy carried = cond (participating phys phy) (outsideGroup carried) (Group (record { 0 = phyGroup phys phy }))
+
+-- P(source group, b); no group reaches nothing
+abbrev pub sourceReaches : ℕ → List ℕ → OutsideGroup → ℕ → Bool
+sourceReaches w permissions (Group a) b = reaches w permissions (a .0) b
+sourceReaches w permissions NoGroup b = false
 
 -- "A caller may change zoning exactly if P(source group, 2) is on"
 unfoldable pub right : ℕ → List ℕ → List ℕ → ℕ → ℕ → Bool
-right w phys permissions phy carried = reaches w permissions (smpSource phys phy carried) 2
+right w phys permissions phy carried = sourceReaches w permissions (smpSource phys phy carried) 2
 
 -- what a rule gives: its result, the response's bytes after the first four, the phy set, and both tables
 pub record Reply : Type 0 where

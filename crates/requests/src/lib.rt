@@ -1,4 +1,5 @@
 // What every SMP request and response has.
+use wire::OutsideGroup;
 use wire::PhyNumber;
 use wire::ZoneGroup;
 ghost use mathlib.Core.Path.{_≡_};
@@ -15,15 +16,15 @@ pub struct Ruled {
     pub written: u16,
 }
 
-// The group that is speaking.
-fn smp_source(phys: &[u8], phy: PhyNumber, carried: u8) -> ZoneGroup
+// The group that is speaking. On a phy that is not participating `carried` is not read.
+pub fn smp_source(phys: &[u8], phy: PhyNumber, carried: u8) -> OutsideGroup
     requires { ⌜ phy .0 < phyCount (now phys) ⌝ }
-    ensures { λ r. ⌜ r .0 ≡ smpSource (now (phys .entry)) (phy .0) carried ⌝ }
+    ensures { λ r. ⌜ r ≡ smpSource (now (phys .entry)) (phy .0) carried ⌝ }
 {
     if tables::is_participating(phys, phy) {
         return wire::outside_group(carried);
     }
-    tables::phy_group(phys, phy)
+    OutsideGroup::Group(tables::phy_group(phys, phy))
 }
 
 // Whether the caller may change zoning.
@@ -31,12 +32,10 @@ pub fn has_right(width: usize, phys: &[u8], permissions: &[u8], phy: PhyNumber, 
     requires { ⌜ (phy .0 < phyCount (now phys)) × Table width (now permissions) ⌝ }
     ensures { λ r. ⌜ r ≡ right width (now (phys .entry)) (now (permissions .entry)) (phy .0) carried ⌝ }
 {
-    permit::permitted(
-        width,
-        permissions,
-        smp_source(phys, phy, carried),
-        ZoneGroup(2),
-    )
+    let OutsideGroup::Group(source) = smp_source(phys, phy, carried) else {
+        return false;
+    };
+    permit::permitted(width, permissions, source, ZoneGroup(2))
 }
 
 // The first four bytes of a response.

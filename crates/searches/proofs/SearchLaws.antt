@@ -11,13 +11,17 @@ use borrow.Author.Tests.{ltb-true, lt-ltb, le-ltb, eq-eqb, ne-eqb, not-true, not
 use lib.ListN.{getD}
 use Rattle.wire.specs.declared.PhyNumber.{PhyNumber}
 use Rattle.wire.specs.declared.ZoneGroup.{ZoneGroup}
+use Rattle.wire.specs.declared.OutsideGroup.{OutsideGroup}
+use Rattle.wire.specs.declared.OutsideGroup.the-variants.{Group, NoGroup}
+use Rattle.wire.specs.Groups.{outsideGroup}
+use Rattle.wire.proofs.GroupLaws.{outside-number}
 use Rattle.wire.proofs.Loops.{left}
 use Rattle.tables.specs.Phys.{phyRecord, phyCount, phyGroup, ready}
-use Rattle.tables.specs.Routes.{routeRecord, routeCount, routePhy, routeGroup}
+use Rattle.tables.specs.Routes.{routeRecord, routeCount, routeByte, routePhy, routeGroup}
 use Rattle.tables.proofs.ArrivalLaws.{both}
 use Rattle.searches.specs.declared.Found.{Found}
 use Rattle.searches.specs.declared.Found.the-variants.{At, Nothing}
-use Rattle.searches.specs.Search.{sameBytes, zeroBytes, found, findPhy, usable, findRoute, orElse, search}
+use Rattle.searches.specs.Search.{sameBytes, zeroBytes, found, foundBy, findPhy, usable, findRoute, orElse, search}
 
 -- ---- bytes that are zero: those from k up are
 pub record Zeros (s : List ℕ) (i k : ℕ) : Type 0 where
@@ -125,6 +129,11 @@ unusable phys p h = rw (le-ltb _ _ h)
 pub usable-ready : (phys : List ℕ) (p : ℕ) (r : Bool) → p < phyCount phys → r ≡ ready phys p → r ≡ usable phys p
 usable-ready phys p r h e = rw (lt-ltb _ _ h) e
 
+-- ---- whether a record fits or not
+pub either-way : (b : Bool) (x : Found) → cond b x x ≡ x
+either-way true x = refl
+either-way false x = refl
+
 -- ---- the routes: none of the first i fits
 pub record RoutesLeft (phys routes frame : List ℕ) (n i : ℕ) : Type 0 where
   pub within : i ≤ n
@@ -139,32 +148,42 @@ routes-none phys routes frame n i w e =
     let z : n - i ≡ 0 = omega arith in sym (w .rest ∙ ap (findRoute phys routes frame i) z)
 
 module _ (phys routes frame : List ℕ) (n i j : ℕ) (w : RoutesLeft phys routes frame n i) (h : i ≡ n → ⊥) (q : j ≡ i) where
-  routes-next : (usable phys (routePhy routes i) && sameBytes 8 routes (routeRecord * i) frame 4) ≡ false → RoutesLeft phys routes frame n (j + 1)
-  unfolding findRoute
+  routes-next : ((m : ℕ) → findRoute phys routes frame i (suc m) ≡ findRoute phys routes frame (suc i) m) → RoutesLeft phys routes frame n (j + 1)
   routes-next e =
       let l = w .within in
       record {
         within = omega arith;
-        rest = rw (q, add-one i) (w .rest ∙ ap (findRoute phys routes frame i) (left n i (omega arith) ∙ ap (λ (m : ℕ). suc (n - m)) (add-one i)) ∙ rw e);
+        rest = rw (q, add-one i) (w .rest ∙ ap (findRoute phys routes frame i) (left n i (omega arith) ∙ ap (λ (m : ℕ). suc (n - m)) (add-one i)) ∙ e (n - suc i));
       }
 
+  -- it does not fit
+  routes-unfit : (usable phys (routePhy routes i) && sameBytes 8 routes (routeRecord * i) frame 4) ≡ false → RoutesLeft phys routes frame n (j + 1)
+  unfolding findRoute
+  routes-unfit e = routes-next (λ m. rw e)
+
   pub routes-other : (k : ℕ) → Agree routes (routeRecord * i) frame 4 k → (getD routes (routeRecord * i + (k - 1)) 0 ≡ getD frame (4 + (k - 1)) 0 → ⊥) → RoutesLeft phys routes frame n (j + 1)
-  routes-other k a e = routes-next (rw (same-not routes (routeRecord * i) frame 4 k a e) (and-false (usable phys (routePhy routes i))))
+  routes-other k a e = routes-unfit (rw (same-not routes (routeRecord * i) frame 4 k a e) (and-false (usable phys (routePhy routes i))))
 
   pub routes-down : (p : PhyNumber) (r : Bool) → p .0 ≡ routePhy routes j → r ≡ usable phys (p .0) → not r ≡ true → RoutesLeft phys routes frame n (j + 1)
   routes-down p r ep e d =
-      let f : usable phys (routePhy routes i) ≡ false = ap (λ (m : ℕ). usable phys (routePhy routes m)) (sym q) ∙ ap (usable phys) (sym ep) ∙ sym e ∙ not-true r d in routes-next (rw f)
+      let f : usable phys (routePhy routes i) ≡ false = ap (λ (m : ℕ). usable phys (routePhy routes m)) (sym q) ∙ ap (usable phys) (sym ep) ∙ sym e ∙ not-true r d in routes-unfit (rw f)
 
-  pub routes-here : (k : ℕ) (p : PhyNumber) (r : Bool) (g : ZoneGroup) → Agree routes (routeRecord * i) frame 4 k → getD routes (routeRecord * i + (k - 1)) 0 ≡ getD frame (4 + (k - 1)) 0 → k - 1 ≤ 0 → p .0 ≡ routePhy routes j → r ≡ usable phys (p .0) → not r ≡ false → g .0 ≡ routeGroup routes j
+  -- it is of no group: whether it fits or not, it is skipped
+  pub routes-skipped : (o : OutsideGroup) → o ≡ routeGroup routes j → o ≡ NoGroup → RoutesLeft phys routes frame n (j + 1)
+  unfolding findRoute
+  routes-skipped o e s =
+      let f : routeGroup routes i ≡ NoGroup = ap (routeGroup routes) (sym q) ∙ sym e ∙ s in
+      routes-next (λ m. rw f (either-way (usable phys (routePhy routes i) && sameBytes 8 routes (routeRecord * i) frame 4) (findRoute phys routes frame (suc i) m)))
+
+  pub routes-here : (k : ℕ) (p : PhyNumber) (r : Bool) (o : OutsideGroup) (g : ZoneGroup) → Agree routes (routeRecord * i) frame 4 k → getD routes (routeRecord * i + (k - 1)) 0 ≡ getD frame (4 + (k - 1)) 0 → k - 1 ≤ 0 → p .0 ≡ routePhy routes j → r ≡ usable phys (p .0) → not r ≡ false → o ≡ routeGroup routes j → o ≡ Group g
       → At p g ≡ findRoute phys routes frame 0 n
   unfolding findRoute
-  routes-here k p r g a e z ep er u eg =
+  routes-here k p r o g a e z ep er u eo s =
       let l = w .within in
       let f : usable phys (routePhy routes i) ≡ true = ap (λ (m : ℕ). usable phys (routePhy routes m)) (sym q) ∙ ap (usable phys) (sym ep) ∙ sym er ∙ not-false r u in
-      ap (λ (x : ℕ). At p (record { 0 = x })) eg
-      ∙ ap (λ (x : ℕ). At (record { 0 = x }) (record { 0 = routeGroup routes j })) ep
-      ∙ ap (λ (m : ℕ). found (routePhy routes m) (routeGroup routes m)) q
-      ∙ sym (w .rest ∙ ap (findRoute phys routes frame i) (left n i (omega arith)) ∙ rw (f, same-all routes (routeRecord * i) frame 4 k a e z))
+      let b : routeGroup routes i ≡ Group g = ap (routeGroup routes) (sym q) ∙ sym eo ∙ s in
+      ap (λ (x : ℕ). At (record { 0 = x }) g) (ep ∙ ap (routePhy routes) q)
+      ∙ sym (w .rest ∙ ap (findRoute phys routes frame i) (left n i (omega arith)) ∙ rw (f, same-all routes (routeRecord * i) frame 4 k a e z, b))
 
 -- ---- both tables, with z whether the address is zero and f what the phy table gave
 module _ (phys routes frame : List ℕ) (z : Bool) (ez : z ≡ zeroBytes 8 frame 4) where
@@ -202,12 +221,22 @@ module _ (phys : List ℕ) where
       names-cond (ready phys i && sameBytes 8 phys (phyRecord * i + 4) frame 4) (found i (phyGroup phys i)) (findPhy phys frame (suc i) n)
       (λ e. (omega arith, both (ready phys i) _ e .0, omega arith)) (names-phy frame (suc i) n (omega arith))
 
+  names-by : (p b : ℕ) → p < phyCount phys → ready phys p ≡ true → (o : OutsideGroup) → outsideGroup b ≡ o → Names phys (foundBy p o)
+  names-by p b h u (Group g) e = let k = outside-number b g e in (h, u, omega arith)
+  names-by p b h u NoGroup e = tt
+
   names-route : (routes frame : List ℕ) (i n : ℕ) → Names phys (findRoute phys routes frame i n)
   unfolding findRoute
   names-route routes frame i zero = tt
   names-route routes frame i (suc n) =
-      names-cond (usable phys (routePhy routes i) && sameBytes 8 routes (routeRecord * i) frame 4) (found (routePhy routes i) (routeGroup routes i)) (findRoute phys routes frame (suc i) n)
-      (λ e. let u = both _ _ (both (usable phys (routePhy routes i)) _ e .0) in (ltb-true _ _ (u .0), u .1, omega arith)) (names-route routes frame (suc i) n)
+      let next = names-route routes frame (suc i) n in
+      names-cond (usable phys (routePhy routes i) && sameBytes 8 routes (routeRecord * i) frame 4) (orElse (foundBy (routePhy routes i) (routeGroup routes i)) (findRoute phys routes frame (suc i) n)) (findRoute phys routes frame (suc i) n)
+      (λ e.
+      let u = both _ _ (both (usable phys (routePhy routes i)) _ e .0) in
+      names-else (foundBy (routePhy routes i) (routeGroup routes i)) (findRoute phys routes frame (suc i) n)
+      (names-by (routePhy routes i) (routeByte routes i 9) (ltb-true _ _ (u .0)) (u .1) (routeGroup routes i) refl)
+      next)
+      next
 
   names-search : (routes frame : List ℕ) → Names phys (search phys routes frame)
   unfolding search

@@ -5,6 +5,8 @@ use mathlib.Core.List.{List}
 use Prim.Native.Nat.{ℕ, zero, suc, _+_, _*_}
 use lib.Dec.{eqb, ltb}
 use lib.ListN.{getD}
+use Rattle.wire.specs.declared.OutsideGroup.{OutsideGroup}
+use Rattle.wire.specs.declared.OutsideGroup.the-variants.{Group, NoGroup}
 use Rattle.tables.specs.Phys.{phyRecord, phyCount, phyGroup, ready}
 use Rattle.tables.specs.Routes.{routeRecord, routeCount, routePhy, routeGroup}
 use Rattle.searches.specs.declared.Found.{Found}
@@ -41,12 +43,17 @@ findPhy phys frame i (suc n) =
 abbrev pub usable : List ℕ → ℕ → Bool
 usable phys p = ltb p (phyCount phys) && ready phys p
 
--- "a record with that address whose phy exists and is ready; the record's group is the destination group": the first of the n from i on
+-- "the record's group is the destination group"; where its byte 9 is no group "Such a route record is skipped in searches"
+abbrev pub foundBy : ℕ → OutsideGroup → Found
+foundBy phy (Group group) = At (record { 0 = phy }) group
+foundBy phy NoGroup = Nothing
+
+-- "a record with that address whose phy exists and is ready": the first of the n from i on that is not skipped
 unfoldable pub findRoute : List ℕ → List ℕ → List ℕ → ℕ → ℕ → Found
 findRoute phys routes frame i zero = Nothing
 findRoute phys routes frame i (suc n) =
     cond (usable phys (routePhy routes i) && sameBytes 8 routes (routeRecord * i) frame 4)
-    (found (routePhy routes i) (routeGroup routes i))
+    (orElse (foundBy (routePhy routes i) (routeGroup routes i)) (findRoute phys routes frame (suc i) n))
     (findRoute phys routes frame (suc i) n)
 
 -- "An address of zero matches nothing."

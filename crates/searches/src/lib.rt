@@ -1,6 +1,7 @@
 // OPEN's search: where a frame's destination is, by the phy table and then by the route table.
 use tables::PHY_RECORD;
 use tables::ROUTE_RECORD;
+use wire::OutsideGroup;
 use wire::PhyNumber;
 use wire::ZoneGroup;
 ghost use mathlib.Core.Path.{_≡_};
@@ -74,7 +75,7 @@ fn is_usable(phys: &[u8], p: PhyNumber) -> bool
     false
 }
 
-// Bytes first and from the last on, as in `search_phys`.
+// Bytes first and from the last on, as in `search_phys`. A record of no group is skipped.
 fn search_routes(phys: &[u8], routes: &[u8], frame: &[u8]) -> Found
     requires { ⌜ length (now frame) ≡ 28 ⌝ }
     ensures { λ r. ⌜ r ≡ findRoute (now (phys .entry)) (now (routes .entry)) (now (frame .entry)) 0 (routeCount (now (routes .entry))) ⌝ }
@@ -101,7 +102,11 @@ fn search_routes(phys: &[u8], routes: &[u8], frame: &[u8]) -> Found
                 i += 1;
                 continue 'search;
             }
-            break 'search Found::At(p, tables::route_group(routes, i));
+            let OutsideGroup::Group(g) = tables::route_group(routes, i) else {
+                i += 1;
+                continue 'search;
+            };
+            break 'search Found::At(p, g);
         }
     }
 }

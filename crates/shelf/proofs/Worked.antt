@@ -2,6 +2,7 @@
 -- Assumes nothing.
 use mathlib.Core.Path.{refl}
 use Rattle.wire.specs.Address.{bigEndian, addressAt}
+use Rattle.wire.specs.Groups.{outsideGroup}
 use Rattle.wire.specs.Bits.{bit, setBit, tab}
 use Rattle.wire.specs.PhySet.{member, bitsOf, setByte, setOf, tally, physIn, some}
 use Rattle.permit.specs.Orders.{apply, rowOrders, batchOrders, rowsEnd}
@@ -26,7 +27,7 @@ use Rattle.rack.specs.Rack.{rack, flat, rackTable}
 use Rattle.shelf.specs.Cases.{Cases, LaterToo, asks, fresh, single89, after1, opens2, changes2, phyZone, batch, rows89}
 
 pub cases : Cases × LaterToo
-unfolding bigEndian addressAt bit setBit tab member bitsOf setByte setOf tally physIn apply rowOrders batchOrders rowsEnd place P reaches shownByte shownRows setP setBoth startByte startTable outcome physSized routesSized arrivalChecks readySet emptySet zoned firstRefusal openSource judge byte20 sent sameBytes zeroBytes findPhy findRoute search samePort some permitted permittedInPort told toldSet frameByte frameOf typedLength smpSource right replied sound allSound configured phyZoneReply operationChecks ordersOf permissionReply rowCount rows reportReply smpReply lengthField rack flat rackTable asks fresh single89 after1 opens2 changes2 phyZone batch rows89
+unfolding bigEndian addressAt outsideGroup bit setBit tab member bitsOf setByte setOf tally physIn apply rowOrders batchOrders rowsEnd place P reaches shownByte shownRows setP setBoth startByte startTable outcome physSized routesSized arrivalChecks readySet emptySet zoned firstRefusal openSource judge byte20 sent sameBytes zeroBytes findPhy findRoute search samePort some permitted permittedInPort told toldSet frameByte frameOf typedLength smpSource right replied sound allSound configured phyZoneReply operationChecks ordersOf permissionReply rowCount rows reportReply smpReply lengthField rack flat rackTable asks fresh single89 after1 opens2 changes2 phyZone batch rows89
 cases = (
   (refl, (refl, refl), refl, refl, refl, refl, refl, refl, refl, refl, refl, refl, refl, refl, (refl, refl), refl, refl, refl),
   (refl, refl),

@@ -4,13 +4,14 @@ use mathlib.Core.List.{List, [], _∷_, _++_}
 use Prim.Native.Nat.{ℕ, _+_, _/_}
 use lib.Dec.{eqb, leb}
 use lib.ListN.{length, getD, drop}
+use Rattle.wire.specs.Groups.{isGroup}
 use Rattle.wire.specs.PhySet.{physIn}
 use Rattle.permit.specs.Permission.{permissionsSized}
 use Rattle.permit.specs.Orders.{Order}
-use Rattle.tables.specs.Refusals.{Check, refuse, below, differ, firstRefusal}
+use Rattle.tables.specs.Refusals.{Check, refuse, below, differ, off, firstRefusal}
 use Rattle.tables.specs.Outcome.{Answer, refusal, answer, Out, outcome}
 use Rattle.tables.specs.Arrival.{arrivalChecks}
-use Rattle.requests.specs.Requests.{Reply, turnedDown, responseOf}
+use Rattle.requests.specs.Requests.{smpSource, Reply, turnedDown, responseOf}
 use Rattle.phy_zone.specs.PhyZone.{phyZoneReply}
 use Rattle.zone_permission.specs.ZonePermission.{permissionReply, ordersOf}
 use Rattle.zone_report.specs.ZoneReport.{reportReply}
@@ -42,15 +43,20 @@ lengthField w phys permissions phy carried request = length ((smpReply w phys pe
 abbrev pub roomFor : List ℕ → List ℕ → Bool
 roomFor response set = leb 1020 (length response) && leb 16 (length set)
 
--- 4 ("SMP under 4"), 5 ("SMP byte 0 not 40h")
-abbrev pub requestChecks : List ℕ → List Check
-requestChecks request = refuse 4 (below (length request) 4) ∷ refuse 5 (differ (getD request 0 0) 0x40) ∷ []
+-- 4 ("SMP under 4"), 5 ("SMP byte 0 not 40h"); document 02, request 02: a carried byte above 127, "on a participating phy, is refusal 5, after
+-- the present causes of 5"
+abbrev pub requestChecks : List ℕ → ℕ → ℕ → List ℕ → List Check
+requestChecks phys phy carried request =
+    refuse 4 (below (length request) 4)
+    ∷ refuse 5 (differ (getD request 0 0) 0x40)
+    ∷ refuse 5 (off (isGroup (smpSource phys phy carried)))
+    ∷ []
 
 -- refusals 1, 2, 3, 7, then 4 and 5, and 8
 abbrev pub smpChecks : ℕ → List ℕ → List ℕ → ℕ → ℕ → List ℕ → Bool → List Check
 smpChecks w phys permissions phy carried request room =
     arrivalChecks phys phy (permissionsSized w permissions) room true
-    ++ (requestChecks request ++ refuse 8 (below 255 (lengthField w phys permissions phy carried request)) ∷ [])
+    ++ (requestChecks phys phy carried request ++ refuse 8 (below 255 (lengthField w phys permissions phy carried request)) ∷ [])
 
 -- what a reply leaves of the call: its values, and the buffers: phy table, permission table, response, phy set
 abbrev pub valuesOf : Reply → List ℕ

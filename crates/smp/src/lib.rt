@@ -2,6 +2,7 @@
 use phy_zone::configure_phy_zone;
 use requests::Ruled;
 use tables::READY;
+use wire::OutsideGroup;
 use wire::PhyNumber;
 use zone_permission::configure_zone_permission;
 use zone_report::report_zone_permission;
@@ -64,6 +65,9 @@ pub fn smp_refusal(
     if request[0] != 0x40 {
         return 5;
     }
+    let OutsideGroup::Group(_) = requests::smp_source(phys, phy, carried) else {
+        return 5;
+    };
     if 255 < length_field(width, phys, permissions, phy, carried, request) {
         return 8;
     }
@@ -133,7 +137,7 @@ fn rule(
     }
 }
 
-// An SMP request arrives; `carried` is the byte that the caller took from the connection's OPEN.
+// An SMP request arrives; `carried` is the group of the connection's OPEN, its byte 20 with bit 7 taken off.
 pub fn smp_at(
     width: usize,
     phys: &mut [u8],

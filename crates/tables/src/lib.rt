@@ -1,4 +1,5 @@
 // Phy records, route records and the set of all ready phys.
+use wire::OutsideGroup;
 use wire::PhyNumber;
 use wire::ZoneGroup;
 ghost use mathlib.Core.Path.{_≡_};
@@ -121,9 +122,9 @@ pub fn route_phy(routes: &[u8], i: usize) -> PhyNumber
     PhyNumber(routes[ROUTE_RECORD * i + 8])
 }
 
-pub fn route_group(routes: &[u8], i: usize) -> ZoneGroup
+pub fn route_group(routes: &[u8], i: usize) -> OutsideGroup
     requires { ⌜ i < routeCount (now routes) ⌝ }
-    ensures { λ r. ⌜ r .0 ≡ routeGroup (now (routes .entry)) i ⌝ }
+    ensures { λ r. ⌜ r ≡ routeGroup (now (routes .entry)) i ⌝ }
 {
     wire::outside_group(routes[ROUTE_RECORD * i + 9])
 }

@@ -3,3 +3,4 @@ pub mod Loops
 pub mod Copies
 pub mod Addresses
 pub mod Sets
+pub mod GroupLaws

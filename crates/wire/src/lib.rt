@@ -19,11 +19,20 @@ pub fn group_of(b: u8) -> ZoneGroup
     ZoneGroup(b % 128)
 }
 
-// The group of a byte from outside: the carried SMP group, a broadcast frame's byte 3, a route record's byte 9.
-pub fn outside_group(b: u8) -> ZoneGroup
-    ensures { λ r. ⌜ r .0 ≡ outsideGroup b ⌝ }
+// What a byte from outside names: a shelf that is joined may number its groups to 255.
+pub enum OutsideGroup {
+    Group(ZoneGroup),
+    NoGroup,
+}
+
+// Reads the group carried for SMP, a broadcast frame's byte 3 and a route record's byte 9.
+pub fn outside_group(b: u8) -> OutsideGroup
+    ensures { λ r. ⌜ r ≡ outsideGroup b ⌝ }
 {
-    ZoneGroup(b % 128)
+    if 127 < b {
+        return OutsideGroup::NoGroup;
+    }
+    OutsideGroup::Group(ZoneGroup(b))
 }
 
 // A byte as a number to count or point with. A cast of what is just read from a buffer is a call, since that is how it is proved.

@@ -1,6 +1,6 @@
 -- `election::with_phy` meets its contract.
 -- Assumes nothing.
-use Rattle.election.proofs.Steps.{lower, not-ready, phy-zero, phy-considered}
+use Rattle.election.proofs.Steps.{lower, zero-priority, not-ready, phy-considered}
 use borrow.Author.Needs.{needs}
 use Rattle.election.proofs.with_phy.Statement.{statement}
 use Rattle.election.proofs.with_phy.Tie as tie
@@ -21,7 +21,7 @@ returns-2 : tie.Need-returns-2
 returns-2 c = search lower
 
 returns-3 : tie.Need-returns-3
-returns-3 c = search phy-zero
+returns-3 c = search zero-priority
 
 phy-address-requires : tie.Need-phy-address-requires
 phy-address-requires c κs = search needs

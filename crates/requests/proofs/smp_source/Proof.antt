@@ -12,13 +12,13 @@ outside-group-requires : tie.Need-outside-group-requires
 outside-group-requires c κs = search needs
 
 returns : tie.Need-returns
-returns c = source-carried _ _ _ _ _ (c .before .before .is-participating .ensures) (c .before .if1 .taken) (c .outside-group .ensures)
+returns c = search source-carried
 
 phy-group-requires : tie.Need-phy-group-requires
 phy-group-requires c κs = search needs
 
 returns-2 : tie.Need-returns-2
-returns-2 c = source-own _ _ _ _ _ (c .before .before .is-participating .ensures) (c .before .if1 .left) (c .phy-group .ensures)
+returns-2 c = search source-own
 
 pub smp-source-spec : {M : Type 1} → statement M
 smp-source-spec =

@@ -2,8 +2,9 @@
 -- Assumes nothing.
 use mathlib.Core.Path.{_≡_, refl}
 use Prim.Native.Nat.{_-_}
-use Rattle.searches.proofs.SearchLaws.{Agree, agree-start, agree-again, RoutesLeft, routes-start, routes-other, routes-down, routes-here, routes-none}
+use Rattle.searches.proofs.SearchLaws.{Agree, agree-start, agree-again, RoutesLeft, routes-start, routes-other, routes-down, routes-skipped, routes-here, routes-none}
 use native.Mathlib.Omega.{arith}
+use borrow.Author.Needs.{needs}
 use Rattle.searches.proofs.search_routes.Statement.{statement}
 use Rattle.searches.proofs.search_routes.Tie as tie
 
@@ -79,6 +80,21 @@ search-again-2 c = let b = c .before .before .before .before .before .before .be
 route-group-requires : tie.Need-route-group-requires Inv-bytes μ-bytes Inv-search μ-search
 route-group-requires c κs = omega arith
 
+enum-known-g : tie.Need-enum-known-g Inv-bytes μ-bytes Inv-search μ-search
+enum-known-g c = search needs
+
+enum-told : tie.Need-enum-told Inv-bytes μ-bytes Inv-search μ-search
+enum-told c = search needs
+
+add-i-3 : tie.Need-add-i-3 Inv-bytes μ-bytes Inv-search μ-search
+add-i-3 c = omega arith
+
+search-less-3 : tie.Need-search-less-3 Inv-bytes μ-bytes Inv-search μ-search
+search-less-3 c = omega arith
+
+search-again-3 : tie.Need-search-again-3 Inv-bytes μ-bytes Inv-search μ-search
+search-again-3 c = search routes-skipped
+
 returns : tie.Need-returns Inv-bytes μ-bytes Inv-search μ-search
 returns c = search routes-none
 
@@ -112,5 +128,10 @@ search-routes-spec =
     search-less-2
     search-again-2
     route-group-requires
+    enum-known-g
+    enum-told
+    add-i-3
+    search-less-3
+    search-again-3
     returns
     returns-2)

@@ -1,5 +1,6 @@
 -- `smp::smp_refusal` meets its contract.
 -- Assumes nothing.
+use Rattle.wire.proofs.GroupLaws.{taken-group, taken-none}
 use Rattle.tables.proofs.RefusalLaws.{rows, held-above, held-atMost}
 use Rattle.tables.proofs.ArrivalLaws.{arrival-there, arrival-front, arrival-back}
 use Rattle.smp.proofs.SmpLaws.{smp-table}
@@ -26,14 +27,26 @@ shared-slice-read-if3 c = search needs
 returns-3 : tie.Need-returns-3
 returns-3 c = search (arrival-back, rows) depth 16
 
+smp-source-requires : tie.Need-smp-source-requires
+smp-source-requires c κs = search arrival-there
+
+enum-told : tie.Need-enum-told
+enum-told c = search needs
+
+enum-told-2 : tie.Need-enum-told-2
+enum-told-2 c = search needs
+
+returns-4 : tie.Need-returns-4
+returns-4 c = search (arrival-back, rows, taken-none) depth 16
+
 length-field-requires : tie.Need-length-field-requires
 length-field-requires c κs = (search arrival-there, search smp-table, omega arith)
 
-returns-4 : tie.Need-returns-4
-returns-4 c = search (arrival-back, rows, held-above) depth 16
-
 returns-5 : tie.Need-returns-5
-returns-5 c = search (arrival-back, rows, held-atMost) depth 16
+returns-5 c = search (arrival-back, rows, taken-group, held-above) depth 16
+
+returns-6 : tie.Need-returns-6
+returns-6 c = search (arrival-back, rows, taken-group, held-atMost) depth 16
 
 pub smp-refusal-spec : {M : Type 1} → statement M
 smp-refusal-spec =
@@ -45,6 +58,10 @@ smp-refusal-spec =
     returns-2
     shared-slice-read-if3
     returns-3
-    length-field-requires
+    smp-source-requires
+    enum-told
+    enum-told-2
     returns-4
-    returns-5)
+    length-field-requires
+    returns-5
+    returns-6)

@@ -1,3 +1,4 @@
 pub mod Steps
 pub mod ElectionLaws
 pub mod Unique
+pub mod SkipLaws

@@ -5,3 +5,4 @@ pub mod Worked
 pub mod Shut
 pub mod WidePorts
 pub mod Apart
+pub mod Outside

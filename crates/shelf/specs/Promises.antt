@@ -1,13 +1,13 @@
 -- What is promised, for every row width w: of document 01's shelf, w = 16, and of the small shelf, w = 1. The proofs are in proofs/: Answers.antt
 -- (Refusals, TurnedDown), Exactly.antt (ExactlyOne), Worked.antt (Cases, whose rows are in Cases.antt, and LaterToo), Histories.antt (History,
 -- BothWays, NoOpen, NoBroadcast), WidePorts.antt (ToldPermitted, ToldOnce, EachPortTold, NoReturn, LeavesPort), Apart.antt (AllHeld, NoOpenApart,
--- NoBroadcastApart) and Shut.antt (Counted, Supervisor, ShutOut). Quotes are of the three demands, docs/PROMISES.md, of document 01 and of
--- document 02.
+-- NoBroadcastApart), Outside.antt (NoGroupNoAnswer, CarriedUnread, Skipped) and Shut.antt (Counted, Supervisor, ShutOut). Quotes are of the
+-- three demands, docs/PROMISES.md, of document 01 and of document 02.
 use mathlib.Core.Path.{_≡_}
 use mathlib.Core.Bool.{Bool, true, false}
 use mathlib.Core.Logic.{_⊎_}
 use mathlib.Core.List.{List, [], _∷_, _++_}
-use Prim.Native.Nat.{ℕ, _≤_, _<_}
+use Prim.Native.Nat.{ℕ, _%_, _≤_, _<_}
 use lib.ListN.{length, getD, drop}
 use Rattle.wire.specs.declared.PhyNumber.{PhyNumber}
 use Rattle.wire.specs.declared.ZoneGroup.{ZoneGroup}
@@ -15,8 +15,9 @@ use Rattle.wire.specs.PhySet.{member, physIn}
 use Rattle.permit.specs.Permission.{groups, tableSize, P, reaches}
 use Rattle.permit.specs.History.{Zone, latest, Says}
 use Rattle.tables.specs.Outcome.{Answer, refusal, answer, Out, out}
-use Rattle.tables.specs.Phys.{phyGroup, emptySet}
+use Rattle.tables.specs.Phys.{phyGroup, participating, emptySet}
 use Rattle.tables.specs.Ports.{samePort}
+use Rattle.tables.specs.Routes.{routeRecord}
 use Rattle.links.specs.Links.{linkedAs}
 use Rattle.election.specs.Election.{electedAs, candidates, elected, Greatest}
 use Rattle.searches.specs.declared.Found.the-variants.{At}
@@ -155,6 +156,29 @@ abbrev pub NoBroadcastApart : Type 0
 NoBroadcastApart =
     (w : ℕ) (phys t : List ℕ) (phy source : ℕ) (set : List ℕ) → Relayed w phys t phy source set
     → (i : ℕ) → i < 128 → Apart w source (phyGroup phys i) → member set i ≡ false
+
+-- ---- Groups from outside: "a byte above 127 is no group, and every caller must act on it"
+
+-- "such a carried byte or frame byte, on a participating phy, is refusal 5": a call that carries one is not answered
+abbrev pub NoGroupNoAnswer : Type 0
+NoGroupNoAnswer =
+    ((w : ℕ) (phys t : List ℕ) (phy carried : ℕ) (request response set v : List ℕ) (bs : List (List ℕ)) → participating phys phy ≡ true
+    → outcomeOf w (smp phys phy carried request response set) t ≡ out (answer v) bs → carried ≤ 127)
+    × ((w : ℕ) (phys t : List ℕ) (phy : ℕ) (arrived set frame v : List ℕ) (bs : List (List ℕ))
+    → outcomeOf w (broadcastFrame phys phy arrived set frame) t ≡ out (answer v) bs → frameSource arrived ≤ 127)
+
+-- on a phy that is not participating the byte carried for SMP decides nothing, whatever it is
+abbrev pub CarriedUnread : Type 0
+CarriedUnread =
+    (w : ℕ) (phys t : List ℕ) (phy carried other : ℕ) (request response set : List ℕ) → participating phys phy ≡ false
+    → outcomeOf w (smp phys phy carried request response set) t ≡ outcomeOf w (smp phys phy other request response set) t
+
+-- "Such a route record is skipped in searches and in the election.": the tables give what they give without it
+abbrev pub Skipped : Type 0
+Skipped =
+    (phys frame before skipped behind : List ℕ) → length before % routeRecord ≡ 0 → length skipped ≡ routeRecord → 127 < getD skipped 9 0
+    → (search phys (before ++ skipped ++ behind) frame ≡ search phys (before ++ behind) frame)
+    × (elected phys (before ++ skipped ++ behind) ≡ elected phys (before ++ behind))
 
 -- ---- The count
 

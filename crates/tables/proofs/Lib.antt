@@ -3,3 +3,4 @@ pub mod OutcomeLaws
 pub mod PhyLaws
 pub mod ArrivalLaws
 pub mod PortLaws
+pub mod RouteLaws

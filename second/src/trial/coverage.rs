@@ -369,7 +369,7 @@ mod tests {
         for profile in Profile::ALL {
             let mut generator = Generator::new(profile, 1);
             let mut coverage = Coverage::new(profile);
-            for _ in 0..30_000 {
+            for _ in 0..60_000 {
                 let call = generator.call();
                 let answer = call.model(profile);
                 generator.keep(&call, &answer);

@@ -178,7 +178,8 @@ impl Generator {
         };
         for _ in 0..times {
             let all = [Damage::Sizes, Damage::Phy, Damage::Room, Damage::Readiness, Damage::Number];
-            let damage = self.random.pick(&all);
+            // Start-up has nothing but its size that could be wrong.
+            let damage = if let Call::StartUp { .. } = call { Damage::Sizes } else { self.random.pick(&all) };
             damage_once(&mut self.random, self.shelf.profile, call, damage);
         }
     }
@@ -222,11 +223,12 @@ fn damage_size(random: &mut Random, profile: Profile, call: &mut Call) {
     }
 }
 
-/// Wrong sizes, and right ones at the edge. The last of each is a right one where a size is cut to 16 bits.
+/// Wrong sizes, and right ones at the edge. The last of each is a right one where a size is cut to 16 bits. The size that
+/// stands twice is the other shelf's.
 const PHY_SIZES: [usize; 8] = [0, 1, 12, 1535, 1536, 1537, 1548, 65_536 + 1536];
 const ROUTE_SIZES: [usize; 8] = [0, 1, 11, 12, 12_288, 12_289, 12_300, 65_536 + 12_288];
-const PERMISSION_SIZES: [usize; 8] = [0, 8, 16, 2032, 2047, 2049, 2064, 65_536 + 2048];
-const PERMISSION_SIZES_OF_SMALL: [usize; 8] = [0, 7, 9, 16, 256, 264, 2048, 65_536 + 8];
+const PERMISSION_SIZES: [usize; 9] = [0, 8, 8, 16, 2032, 2047, 2049, 2064, 65_536 + 2048];
+const PERMISSION_SIZES_OF_SMALL: [usize; 9] = [0, 7, 9, 16, 256, 264, 2048, 2048, 65_536 + 8];
 
 fn damage_phy(random: &mut Random, call: &mut Call) {
     let (phys, phy) = match call {

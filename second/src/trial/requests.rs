@@ -187,7 +187,11 @@ fn row(random: &mut Random, profile: Profile) -> [u8; 16] {
 
 pub fn report(random: &mut Random) -> Vec<u8> {
     let mut request = header(random, REPORT_ZONE_PERMISSION, 1);
-    request.push(if random.percent(30) { random.pick(&EDGES) } else { random.byte() & 0x7f });
+    request.push(match random.below(10) {
+        0..=2 => random.pick(&EDGES),
+        3 => random.below(3) as u8,
+        _ => random.byte() & 0x7f,
+    });
     request.push(if random.percent(40) { random.pick(&EDGES) } else { random.byte() & 0x0f });
     request
 }

@@ -49,12 +49,14 @@ missed=0
 large 'rows read and written from the wrong end' permission.rs '(WIDTH - 1 - group \/ 8, group % 8)' \
     '(group \/ 8, group % 8)'
 large 'the fill of an odd k judged as a descriptor' smp.rs '\[\.\.2 \* k\]' '[..2 * k + fill]'
-large 'a participating phy speaks for its own group' speaking.rs 'if arriving.participating' 'if false'
+large 'OPEN: a participating phy speaks for its own group' speaking.rs 'Group::low_7_bits(zone_byte)' 'arriving.group'
+large 'a participating phy speaks for its own group' speaking.rs 'Group::from_outside(carried).ok_or(Refusal::Kind)' \
+    'Ok(arriving.group)'
 large 'only one of (a,b) and (b,a) written' permission.rs 'write_one(&mut rows\[b.index()\], a.index(), on);' ''
 large 'a batch row writes bits 0 and 1' permission.rs 'named & !UNNAMED | old & UNNAMED' 'named'
 large 'a route to a phy that is not ready' open.rs '&& is_ready(route.phy)' '\&\& usize::from(route.phy) < phys.len()'
-large 'a route gives its phy the group' open.rs 'phy: usize::from(route.phy), group: route.group' \
-    'phy: usize::from(route.phy), group: PhyRecord::from(\&phys[usize::from(route.phy)]).group'
+large 'a route gives its phy the group' open.rs 'group: route.group?' \
+    'group: route.group.map(|_| PhyRecord::from(\&phys[usize::from(route.phy)]).group)?'
 large 'a known address is not asked for' links.rs 'before.address_known && ' ''
 large 'carried of 256 and more cut to a byte' smp.rs 'u8::try_from(carried).map_err(|_| Refusal::Kind)?' 'carried as u8'
 large '93h: start with all 8 bits' smp.rs 'request\[6\] & 0x7f' 'request[6]'
@@ -80,7 +82,7 @@ large 'OPEN: forwarded to a sister' open.rs 'same_port(phys, place, found.phy)' 
 large 'OPEN: a sister counts only in the phy table' open.rs 'same_port(phys, place, found.phy)' \
     'place == found.phy || arriving.address == destination(frame)'
 large 'OPEN: ZONE VIOLATION before BAD DESTINATION' open.rs 'same_port(phys, place, found.phy)' \
-    'same_port(phys, place, found.phy) \&\& permitted(rows, source_group(\&arriving, frame[ZONE_BYTE]), found.group)'
+    'same_port(phys, place, found.phy) \&\& permitted(rows, source_of_open(\&arriving, frame[ZONE_BYTE]), found.group)'
 large 'a change notice: one phy of each port' smp.rs 'phy_set(phys, |_| true)' \
     'phy_set(phys, |_| true) \& !(0..phys.len()).filter(|\&phy| (0..phy).any(|lower| crate::ports::same_port(phys, lower, phy))).fold(0, |set, phy| set | 1 << phy)'
 small 'groups modulo 8' permission.rs 'match rows.get(a.index()) {' \

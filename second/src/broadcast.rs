@@ -4,7 +4,7 @@ use crate::open::FRAME;
 use crate::permission::permitted;
 use crate::ports::same_port;
 use crate::refusals::{arriving_phy, ready, refuse_if, room, Refusal};
-use crate::speaking::source_group;
+use crate::speaking::source_from_outside;
 use crate::tables::{permission_table, phy_table, Group, PhyRecord, Record, Row};
 
 /// The bytes of a phy set. Phy i is at bit i mod 8 of byte i/8: bit i of a little-endian number.
@@ -95,9 +95,10 @@ pub(crate) fn try_broadcast_frame<const WIDTH: usize>(
         _ => return Err(Refusal::Kind),
     };
     refuse_if(frame.len() != expected, Refusal::Length)?;
+    // 6 comes after 5, but on a phy that is not participating byte 3 gives no cause for 5.
     refuse_if(!arriving.participating, Refusal::NotParticipating)?;
     let number = frame[0] >> 4 & 0x7;
-    let source = source_group(&arriving, frame[GROUP_BYTE]);
+    let source = source_from_outside(&arriving, frame[GROUP_BYTE])?;
     Ok(tell(told(phys, rows, place, source), source, number, set, out))
 }
 

@@ -61,7 +61,8 @@ fn try_elect(phys: &[u8], routes: &[u8]) -> Result<(u8, u64), Refusal> {
     let (phys, routes) = (phy_table(phys)?, route_table(routes)?);
     let attached = phys.iter().map(PhyRecord::from).filter(|record| record.ready);
     let attached = attached.map(|record| (record.priority, record.address));
-    let routed = routes.iter().map(RouteRecord::from).map(|record| (record.priority, record.address));
+    let routed = routes.iter().map(RouteRecord::from).filter(|record| record.group.is_some());
+    let routed = routed.map(|record| (record.priority, record.address));
     // Tuples compare as the rule asks: higher priority wins, then the greater address.
     let best = attached.chain(routed).filter(|&(priority, address)| priority > 0 && address != 0).max();
     Ok(best.unwrap_or((0, 0)))

@@ -3,7 +3,7 @@
 use crate::permission::permitted;
 use crate::ports::same_port;
 use crate::refusals::{arriving_phy, ready, refuse_if, room, Refusal};
-use crate::speaking::source_group;
+use crate::speaking::source_of_open;
 use crate::tables::{permission_table, phy_table, route_table, Group, PhyRecord, Record, RouteRecord};
 
 /// An OPEN frame without its CRC.
@@ -76,7 +76,7 @@ fn try_open<const WIDTH: usize>(
     if same_port(phys, place, found.phy) {
         return Ok(Outcome::BadDestination);
     }
-    let source = source_group(&arriving, frame[ZONE_BYTE]);
+    let source = source_of_open(&arriving, frame[ZONE_BYTE]);
     if !permitted(rows, source, found.group) {
         return Ok(Outcome::ZoneViolation);
     }
@@ -112,14 +112,14 @@ fn search_phys(phys: &[Record], address: u64) -> Option<Found> {
         .map(|(phy, record)| Found { phy, group: record.group })
 }
 
-/// A route counts only if its phy exists and is ready.
+/// A route counts only if its phy exists and is ready, and if it has a group: the search goes on past any other.
 fn search_routes(phys: &[Record], routes: &[Record], address: u64) -> Option<Found> {
     let is_ready = |phy: u8| phys.get(usize::from(phy)).is_some_and(|record| PhyRecord::from(record).ready);
     routes
         .iter()
         .map(RouteRecord::from)
-        .find(|route| route.address == address && is_ready(route.phy))
-        .map(|route| Found { phy: usize::from(route.phy), group: route.group })
+        .filter(|route| route.address == address && is_ready(route.phy))
+        .find_map(|route| Some(Found { phy: usize::from(route.phy), group: route.group? }))
 }
 
 fn forwarded_zone_byte(arriving: &PhyRecord, towards: &PhyRecord, source: Group, carried: u8) -> u8 {

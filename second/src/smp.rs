@@ -3,7 +3,7 @@
 use crate::broadcast::{phy_set, write_set, SET};
 use crate::permission::{may_change_zoning, show_rows, write_pair, write_row, FIRST_NAMED};
 use crate::refusals::{arriving_phy, ready, refuse_if, room, Refusal};
-use crate::speaking::source_group;
+use crate::speaking::source_from_outside;
 use crate::tables::{groups_of_table, permission_table_mut, phy_table_mut, Group, Record, Row, GROUPS, LARGE};
 
 pub const REQUEST_TYPE: u8 = 0x40;
@@ -51,7 +51,7 @@ pub struct Answered {
     pub count: u32,
 }
 
-/// An SMP request arrives; `carried` is the byte that the caller took from the connection's OPEN.
+/// An SMP request arrives; `carried` is the group that the caller took from the connection's OPEN.
 pub fn smp<const WIDTH: usize>(
     phys: &mut [u8],
     permissions: &mut [u8],
@@ -82,8 +82,9 @@ fn try_smp<const WIDTH: usize>(
     refuse_if(request.len() < HEADER, Refusal::Length)?;
     refuse_if(request[0] != REQUEST_TYPE, Refusal::Kind)?;
     let carried = u8::try_from(carried).map_err(|_| Refusal::Kind)?;
+    let source = source_from_outside(&arriving, carried)?;
 
-    let right = may_change_zoning(rows, source_group(&arriving, carried));
+    let right = may_change_zoning(rows, source);
     let answer = match request[1] {
         CONFIGURE_PHY_ZONE => configure_phy_zone::<WIDTH>(phys, right, request),
         CONFIGURE_ZONE_PERMISSION => configure_zone_permission(phys, rows, right, request),

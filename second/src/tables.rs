@@ -34,7 +34,12 @@ const ROUTES: RangeInclusive<usize> = 0..=1024;
 pub struct Group(u8);
 
 impl Group {
-    /// The group that the low 7 bits of a byte name.
+    /// The group that a byte from outside names. Newer shelves number theirs to 255, and one above 127 is none of ours.
+    pub fn from_outside(byte: u8) -> Option<Group> {
+        (byte <= 127).then_some(Group(byte))
+    }
+
+    /// The group that the low 7 bits of a byte name, where its highest bit is another field or reserved.
     pub fn low_7_bits(byte: u8) -> Group {
         Group(byte & 0x7f)
     }
@@ -79,12 +84,12 @@ impl From<&Record> for PhyRecord {
     }
 }
 
-/// What a record of the route table says.
+/// What a record of the route table says. One without a group counts nowhere.
 #[derive(Clone, Copy, Debug, PartialEq, Eq)]
 pub struct RouteRecord {
     pub address: u64,
     pub phy: u8,
-    pub group: Group,
+    pub group: Option<Group>,
     pub priority: u8,
 }
 
@@ -95,7 +100,7 @@ impl From<&Record> for RouteRecord {
         RouteRecord {
             address: u64::from_be_bytes(address),
             phy,
-            group: Group::low_7_bits(group),
+            group: Group::from_outside(group),
             priority: priority & 0x0f,
         }
     }
@@ -175,7 +180,17 @@ mod tests {
         assert!(record.participating && record.ready && !record.address_known);
         assert_eq!((record.priority, record.group.number()), (15, 8));
         assert_eq!(record.address, 0x5000_0000_0000_0010);
-        let route = RouteRecord::from(&[0x50, 0, 0, 0, 0, 0, 0, 0x10, 0x81, 0x88, 0xf3, 0xff]);
-        assert_eq!((route.phy, route.group.number(), route.priority), (0x81, 8, 3));
+        let route = RouteRecord::from(&[0x50, 0, 0, 0, 0, 0, 0, 0x10, 0x81, 0x08, 0xf3, 0xff]);
+        assert_eq!((route.phy, route.group, route.priority), (0x81, Some(Group(8)), 3));
+    }
+
+    #[test]
+    fn a_byte_from_outside_above_127_is_no_group() {
+        let numbers = |byte| Group::from_outside(byte).map(Group::number);
+        assert!((0..=127).all(|byte| numbers(byte) == Some(byte)));
+        assert!((128..=255).all(|byte| numbers(byte).is_none()));
+        let group_of_route = |byte| RouteRecord::from(&[0, 0, 0, 0, 0, 0, 0, 1, 0, byte, 0, 0]).group;
+        assert_eq!(group_of_route(127), Some(Group(127)));
+        assert_eq!([128, 136, 255].map(group_of_route), [None; 3]);
     }
 }

@@ -133,7 +133,7 @@ fn groups_above_7_reach_only_group_1_and_are_reached_only_by_it() {
 }
 
 #[test]
-fn carried_groups_and_route_records_are_read_as_before() {
+fn carried_groups_and_route_records_above_7() {
     let Small { phys, permissions } = rack(START_UP);
     let sent = |phy, to, byte| {
         let mut out = [STAYS; 28];
@@ -149,8 +149,8 @@ fn carried_groups_and_route_records_are_read_as_before() {
         let route = [&elsewhere[..], &[3, group, 0, 0]].concat();
         open(&phys, &route, &permissions, phy, &open_frame(elsewhere, 0), &mut [0; 28]).outcome
     };
-    assert_eq!([1, 8, 9, 0x81].map(|group| by_route(0, group)), [FORWARD; 4], "from group 1");
-    assert_eq!(by_route(2, 0x81), FORWARD, "from group 8 to the route's group 1, though its phy is in group 8");
+    assert_eq!([1, 8, 9, 127].map(|group| by_route(0, group)), [FORWARD; 4], "from group 1");
+    assert_eq!(by_route(2, 1), FORWARD, "from group 8 to the route's group 1, though its phy is in group 8");
     assert_eq!([2, 8, 9].map(|group| by_route(2, group)), [ZONE_VIOLATION; 3]);
 }
 
@@ -161,7 +161,7 @@ fn broadcasts_from_and_to_groups_above_7() {
     assert_eq!(fresh.change(2), (0x81, 8), "group 8 reaches phys 0 and 7, not phy 3 of its own group");
     assert_eq!(fresh.change(1), (0x81, 2));
     assert_eq!(fresh.frame(0x01), (0x7f, 1));
-    assert_eq!(fresh.frame(0x88), (0x01, 8), "phy 0; phy 7 is the arriving one");
+    assert_eq!(fresh.frame(0x08), (0x01, 8), "phy 0; phy 7 is the arriving one");
     let full = rack(EVERYTHING);
     assert_eq!(full.change(1), (0xc1, 2), "phys 0, 6 and 7: groups 1, 0 and 1");
     assert_eq!(full.change(4), (0x81, 9));

@@ -3,7 +3,7 @@
 use super::call::Call;
 use super::profile::Profile;
 use crate::ports::same_port;
-use crate::speaking::source_group;
+use crate::speaking::{source_from_outside, source_of_open};
 use crate::tables::{Group, PhyRecord, Record};
 
 /// The tables of a call that was not refused, so that they have the right sizes.
@@ -18,16 +18,21 @@ pub struct Arrival<'a> {
 impl Arrival<'_> {
     /// Nothing for a call on which no group speaks.
     pub fn of(profile: Profile, call: &Call) -> Option<Arrival<'_>> {
-        let (phys, permissions, phy, carried) = match call {
-            Call::Open { phys, permissions, phy, frame, .. } => (phys, permissions, *phy, Some(frame[20])),
-            Call::Primitive { phys, permissions, phy, .. } => (phys, permissions, *phy, None),
-            Call::BroadcastFrame { phys, permissions, phy, frame, .. } => (phys, permissions, *phy, Some(frame[3])),
-            Call::Smp { phys, permissions, phy, carried, .. } => (phys, permissions, *phy, Some(*carried as u8)),
+        let (phys, permissions, phy) = match call {
+            Call::Open { phys, permissions, phy, .. }
+            | Call::Primitive { phys, permissions, phy, .. }
+            | Call::BroadcastFrame { phys, permissions, phy, .. }
+            | Call::Smp { phys, permissions, phy, .. } => (phys, permissions, *phy as usize),
             _ => return None,
         };
-        let (phys, phy): (&[Record], _) = (phys.as_chunks().0, phy as usize);
+        let phys: &[Record] = phys.as_chunks().0;
         let arriving = PhyRecord::from(&phys[phy]);
-        let source = carried.map_or(arriving.group, |carried| source_group(&arriving, carried));
+        let source = match call {
+            Call::Open { frame, .. } => source_of_open(&arriving, frame[20]),
+            Call::BroadcastFrame { frame, .. } => source_from_outside(&arriving, frame[3]).ok()?,
+            Call::Smp { carried, .. } => source_from_outside(&arriving, *carried as u8).ok()?,
+            _ => arriving.group,
+        };
         Some(Arrival { profile, phys, permissions, phy, source })
     }
 

@@ -5,7 +5,7 @@ use super::random::Random;
 use super::requests::{broadcast_frame, damage_frame, group_byte, open_frame, request};
 use super::shelf::{Shelf, BASE};
 use crate::bench::{Event, Rack, BROADCAST_FRAME, IDENTIFY, LEAVING, OPEN, PRIMITIVE, SMP};
-use crate::speaking::source_group;
+use crate::speaking::source_from_outside;
 use crate::tables::PhyRecord;
 
 /// A stream of at most so many events on a rack that they change, most of them good. Most streams leave out an event
@@ -34,7 +34,8 @@ pub fn stream(random: &mut Random, events: usize) -> Vec<u8> {
 /// Whether some phy may change zoning once it is ready: by its own group, or by group 1 carried to it.
 fn may_zone(rack: &Rack) -> bool {
     let mut phys = rack.phys.as_chunks().0.iter().map(PhyRecord::from);
-    phys.any(|phy| Profile::Large.may_change_zoning(&rack.permissions, source_group(&phy, 1)))
+    let has_right = |source| Profile::Large.may_change_zoning(&rack.permissions, source);
+    phys.any(|phy| source_from_outside(&phy, 1).is_ok_and(has_right))
 }
 
 /// Some bytes of the stream become others. Where one was a length, all events after it are others as well.

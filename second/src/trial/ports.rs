@@ -90,7 +90,7 @@ fn opened(arrival: &Arrival, routes: &[Record], frame: &[u8], answer: &Answer) -
     let leads_elsewhere = |route: RouteRecord| {
         let (address, phy) = (route.address.to_be_bytes(), usize::from(route.phy));
         let is_ready = phy < arrival.phys.len() && arrival.record(phy).ready;
-        address == frame[4..12] && is_ready && !arrival.same_port(phy, arrival.phy)
+        address == frame[4..12] && is_ready && route.group.is_some() && !arrival.same_port(phy, arrival.phy)
     };
     let by_route = towards.address.to_be_bytes() != frame[4..12];
     let is_wide = |phy| !arrival.sisters(phy).is_empty();

@@ -4,7 +4,7 @@ use super::profile::Profile;
 use super::random::Random;
 use super::requests::{group, group_byte, reserved};
 use crate::bench::Rack;
-use crate::speaking::source_group;
+use crate::speaking::source_from_outside;
 use crate::tables::{PhyRecord, Record};
 use std::iter::repeat_n;
 
@@ -73,8 +73,8 @@ impl Shelf {
             let carried = group_byte(random, self.profile);
             let phy = self.phy(random, |record| record.ready);
             speaker = (phy, carried);
-            let source = source_group(&self.record(phy), carried);
-            if !want_right || self.profile.may_change_zoning(&self.permissions, source) {
+            let has_right = |source| self.profile.may_change_zoning(&self.permissions, source);
+            if !want_right || source_from_outside(&self.record(phy), carried).is_ok_and(has_right) {
                 break;
             }
         }

@@ -3,7 +3,7 @@
 use super::arrival::{that_apply, Arrival, Classes};
 use super::call::{Answer, Call, NAMES};
 use super::profile::Profile;
-use super::{ports, small};
+use super::{outside, ports, small};
 use crate::smp::{CONFIGURE_PHY_ZONE, CONFIGURE_ZONE_PERMISSION, REPORT_ZONE_PERMISSION};
 use crate::tables::{phy_table, route_table, PhyRecord};
 use std::collections::BTreeMap;
@@ -61,6 +61,7 @@ const REQUIRED: [(&str, &[&str]); 17] = [
             "refused 3",
             "refused 4",
             "refused 5",
+            "refused 5, no group",
             "refused 6",
             "refused 7",
         ],
@@ -98,7 +99,8 @@ const REQUIRED: [(&str, &[&str]); 17] = [
             "refused 3",
             "refused 4",
             "refused 5",
-            "refused 5, carried",
+            "refused 5, no byte",
+            "refused 5, no group",
             "refused 7",
         ],
     ),
@@ -140,7 +142,7 @@ impl Coverage {
     pub fn missing(&self) -> Vec<String> {
         let place = |name| NAMES.iter().position(|known| *known == name).expect("a call's name");
         let of_small = if self.profile == Profile::Small { &small::REQUIRED[..] } else { &[] };
-        let required = REQUIRED.iter().chain(of_small);
+        let required = REQUIRED.iter().chain(&outside::REQUIRED).chain(of_small);
         let all = required.flat_map(|(name, classes)| classes.iter().map(move |class| (*name, *class)));
         let missing = all.filter(|&(name, class)| !self.answers.contains_key(&(place(name), class)));
         missing.map(|(name, class)| format!("{name}: {class}")).collect()
@@ -165,6 +167,7 @@ fn classes(profile: Profile, call: &Call, answer: &Answer) -> Classes {
         1 => classes.extend(wrong_size(profile, call)),
         _ => {}
     }
+    classes.extend(outside::classes(profile, call, answer));
     classes
 }
 
@@ -200,7 +203,14 @@ fn class(profile: Profile, call: &Call, answer: &Answer) -> &'static str {
 
 fn refused_5(call: &Call) -> &'static str {
     match call {
-        Call::Smp { request, .. } if request[0] == 0x40 => "refused 5, carried",
+        Call::Smp { request, carried, .. } if request[0] == 0x40 => {
+            if *carried > 255 {
+                "refused 5, no byte"
+            } else {
+                "refused 5, no group"
+            }
+        }
+        Call::BroadcastFrame { frame, .. } if matches!(frame[0] & 0x0f, 2 | 3) => "refused 5, no group",
         _ => "refused 5",
     }
 }

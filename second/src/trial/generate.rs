@@ -298,7 +298,7 @@ fn damage_number(random: &mut Random, call: &mut Call) {
         }
         Call::Smp { carried, .. } => {
             let [cut_to_8, cut_to_16] = right_where_cut(*carried);
-            *carried = random.pick(&[256, 255, cut_to_8, cut_to_16, 1 << 31, u32::MAX]);
+            *carried = random.pick(&[256, 255, 128, cut_to_8, cut_to_16, 1 << 31, u32::MAX]);
         }
         Call::Open { frame, .. } | Call::BroadcastFrame { frame, .. } => damage_frame(random, frame),
         Call::Identify { address, .. } => address.fill(0),

@@ -5,6 +5,7 @@ pub mod call;
 pub mod coverage;
 pub mod events;
 pub mod generate;
+pub mod outside;
 pub mod ports;
 pub mod profile;
 pub mod random;

@@ -11,6 +11,9 @@ const GROUPS: [u8; 12] = [0, 1, 1, 2, 3, 7, 8, 8, 9, 64, 126, 127];
 /// The same for a table of groups 0 to 7. Modulo 8 those from 8 to 10 are groups 0 to 2.
 const GROUPS_OF_SMALL: [u8; 16] = [0, 1, 1, 1, 2, 2, 3, 5, 6, 7, 7, 8, 8, 9, 10, 127];
 
+/// Bytes that are no group: at the edges, and such as modulo 128 are groups that meet often.
+const NO_GROUPS: [u8; 6] = [128, 128, 129, 130, 136, 255];
+
 /// Numbers that a length, a start or a count may be off to.
 const EDGES: [u8; 14] = [0, 1, 2, 7, 62, 63, 64, 65, 126, 127, 128, 129, 254, 255];
 
@@ -25,9 +28,19 @@ pub fn group(random: &mut Random, profile: Profile) -> u8 {
     }
 }
 
-/// A group byte, its highest bit sometimes on.
+/// A group byte whose highest bit is none of the group's and sometimes on.
 pub fn group_byte(random: &mut Random, profile: Profile) -> u8 {
     group(random, profile) | if random.percent(15) { 0x80 } else { 0 }
+}
+
+/// A group byte from outside, of which so many in a hundred are no group. The edge, 127 and 128, is met often.
+pub fn byte_from_outside(random: &mut Random, profile: Profile, no_group: usize) -> u8 {
+    match (random.percent(no_group), random.below(20)) {
+        (true, 0..=7) => random.pick(&NO_GROUPS),
+        (true, _) => group(random, profile) | 0x80,
+        (false, 0) => 127,
+        (false, _) => group(random, profile),
+    }
 }
 
 /// Reserved bits: mostly zero, sometimes anything.
@@ -208,8 +221,8 @@ fn other_function(random: &mut Random) -> Vec<u8> {
 
 /// One place is damaged: the length and its byte, a count, a start, byte 0, or any byte.
 fn damage(random: &mut Random, request: &mut Vec<u8>) {
-    match random.below(11) {
-        0 => request.truncate(random.below(12)),
+    match random.below(12) {
+        0 => request.truncate(random.below(6)),
         1 => request.truncate(request.len().saturating_sub(random.between(1, 4))),
         2 => request.extend(random.bytes(4)),
         3 => {
@@ -228,6 +241,7 @@ fn damage(random: &mut Random, request: &mut Vec<u8>) {
             request.resize(4 * dwords, 0);
             replace(request, 3, dwords as u8 - 1);
         }
+        10 => replace(request, 0, random.pick(&[0x00, 0x41, 0x44, 0xc0])),
         _ => {
             let at = random.below(request.len().max(1));
             let to = if random.percent(50) { random.pick(&EDGES) } else { random.byte() };
@@ -263,7 +277,7 @@ pub fn broadcast_frame(random: &mut Random, profile: Profile) -> Vec<u8> {
     let (kind, length) = random.pick(&[(0x2, 28), (0x3, 4)]);
     let mut frame = random.bytes(length);
     frame[0] = frame[0] & 0xf0 | kind;
-    frame[3] = group_byte(random, profile);
+    frame[3] = byte_from_outside(random, profile, 15);
     frame
 }
 

@@ -2,7 +2,7 @@
 
 use super::profile::Profile;
 use super::random::Random;
-use super::requests::{group, group_byte, reserved};
+use super::requests::{byte_from_outside, group, group_byte, reserved};
 use crate::bench::Rack;
 use crate::speaking::source_from_outside;
 use crate::tables::{PhyRecord, Record};
@@ -65,12 +65,13 @@ impl Shelf {
         phy
     }
 
-    /// A ready phy and a carried byte, mostly with the right to change zoning.
+    /// A ready phy and a carried byte, mostly with the right to change zoning. On a participating phy that byte is at
+    /// times no group, mostly one that would have the right if it were taken modulo 128.
     pub fn speaker(&self, random: &mut Random) -> (usize, u8) {
         let want_right = random.percent(85);
         let mut speaker = (0, 0);
         for _ in 0..12 {
-            let carried = group_byte(random, self.profile);
+            let carried = byte_from_outside(random, self.profile, 15);
             let phy = self.phy(random, |record| record.ready);
             speaker = (phy, carried);
             let has_right = |source| self.profile.may_change_zoning(&self.permissions, source);
@@ -78,7 +79,8 @@ impl Shelf {
                 break;
             }
         }
-        speaker
+        let (phy, carried) = speaker;
+        (phy, if random.percent(6) { carried | 0x80 } else { carried })
     }
 }
 
@@ -176,6 +178,7 @@ fn routes(random: &mut Random, profile: Profile, addresses: &[u64], phys: usize)
         12..=15 => random.between(20, 200),
         _ => random.between(1, 12),
     };
+    let no_group = random.pick(&[0, 10, 10, 50]);
     let mut table = Vec::with_capacity(count * 12);
     for _ in 0..count {
         let phy = match random.below(10) {
@@ -183,10 +186,14 @@ fn routes(random: &mut Random, profile: Profile, addresses: &[u64], phys: usize)
             1 => random.pick(&[0, 127, 128, 254, 255]),
             _ => random.below(phys) as u8,
         };
-        let address = if random.percent(10) { random.number() } else { random.pick(addresses) };
-        table.extend(address.to_be_bytes());
+        // Routes to one address follow one another, so that a search has more than one to choose from.
+        match (table.len().checked_sub(12), random.below(10)) {
+            (Some(last), 0..=2) => table.extend_from_within(last..last + 8),
+            (_, 3) => table.extend(random.number().to_be_bytes()),
+            _ => table.extend(random.pick(addresses).to_be_bytes()),
+        }
         table.push(phy);
-        table.push(group_byte(random, profile));
+        table.push(byte_from_outside(random, profile, no_group));
         table.push(random.byte() & 0x0f | reserved(random) & 0xf0);
         table.push(if random.percent(90) { 0 } else { random.byte() });
     }

@@ -2,8 +2,8 @@
 //!
 //! streams BENCH-COMMAND [STREAMS] [SEED]
 //!
-//! The fixed streams (document 01's cases, all their beginnings, wide ports, and edges) come first, then so many random
-//! ones. Exits with 0 where all texts were equal and every kind of line was printed.
+//! The fixed streams (document 01's cases, all their beginnings, wide ports, bytes that are no group, and edges) come
+//! first, then so many random ones. Exits with 0 where all texts were equal and every kind of line was printed.
 
 use second::bench::{self, Event};
 use second::trial::events::{damage, stream};
@@ -197,6 +197,21 @@ fn wide_ports() -> Vec<(&'static str, Vec<u8>)> {
     ]
 }
 
+/// Every byte as the carried group of an order on the participating phy 7 and on phy 0, as byte 3 of both frames and as
+/// byte 20 of an OPEN. The orders switch groups 8 and 9 on and off, so that one too many or too few shows.
+fn every_byte() -> Vec<u8> {
+    let one = |byte: u8| {
+        let mut order = SINGLE;
+        order[7] ^= (byte & 1) << 7;
+        let (mut long, mut open) = ([0; 28], open_to(4));
+        (long[0], long[3], open[20]) = (0x02, byte, byte);
+        let smp = |phy| Event { kind: 1, phy, carried: byte, payload: &order }.bytes();
+        let frames = [7, 0].map(|phy| [event(4, phy, &[0x03, 0, 0, byte]), event(4, phy, &long)].concat());
+        [smp(7), event(2, 2, &open_to(4)), smp(0), frames.concat(), event(2, 7, &open)].concat()
+    };
+    (0..=255).flat_map(one).collect()
+}
+
 fn fixed() -> Vec<Trial> {
     let trial = |name: &str, stream| Trial { name: name.to_string(), stream };
     let cases = cases_1_to_5();
@@ -208,6 +223,7 @@ fn fixed() -> Vec<Trial> {
     for (name, events) in wide_ports() {
         trials.push(trial(name, [events, aftermath()].concat()));
     }
+    trials.push(trial("every group byte", [every_byte(), aftermath()].concat()));
     for kind in [0, 3, 5, 6, 7, 255] {
         let lengths = [0, 1, 2, 7, 8, 9].map(|length| event(kind, 1, &vec![1; length]));
         trials.push(trial(&format!("kind {kind} of several lengths"), [lengths.concat(), aftermath()].concat()));

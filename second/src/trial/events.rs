@@ -145,29 +145,57 @@ fn any_payload(random: &mut Random) -> Vec<u8> {
 mod tests {
     use super::*;
     use crate::ports::same_port;
+    use std::collections::BTreeMap;
 
     fn has_wide_port(rack: &Rack) -> bool {
         let phys = rack.phys.as_chunks().0;
         (0..8).any(|a| (0..a).any(|b| same_port(phys, a, b)))
     }
 
-    #[test]
-    fn most_frames_arrive_where_a_port_is_wide() {
+    /// Each event of ten streams with its line and the rack as it was before.
+    fn for_each_event(mut seen: impl FnMut(&Rack, &Event, &str)) {
         let mut random = Random::new(1);
-        let streams: Vec<_> = (0..10).map(|_| stream(&mut random, 600)).collect();
-        let (mut opens, mut broadcasts) = ([0; 2], [0; 2]);
-        for stream in streams {
+        for _ in 0..10 {
+            let stream = stream(&mut random, 600);
             let (mut rack, mut left) = (Rack::default(), stream.as_slice());
             while let Some((event, after)) = Event::take(left) {
-                let wide = usize::from(has_wide_port(&rack));
-                match rack.line(&event).as_bytes()[0] {
-                    b'O' => opens[wide] += 1,
-                    b'B' => broadcasts[wide] += 1,
-                    _ => {}
-                }
+                let before = rack.clone();
+                seen(&before, &event, &rack.line(&event));
                 left = after;
             }
         }
+    }
+
+    #[test]
+    fn bytes_that_are_no_group_arrive_on_both_kinds_of_phys() {
+        let mut lines = BTreeMap::new();
+        for_each_event(|_, event, line| {
+            let byte = match event.kind {
+                SMP => event.carried,
+                BROADCAST_FRAME => event.payload.get(3).copied().unwrap_or(0),
+                _ => 0,
+            };
+            let telling = if line.starts_with('S') { "S" } else { line };
+            if byte > 127 {
+                *lines.entry((event.kind, telling.to_string())).or_insert(0) += 1;
+            }
+        });
+        for (kind, line) in [(SMP, "S"), (SMP, "X 5"), (BROADCAST_FRAME, "X 5"), (BROADCAST_FRAME, "X 6")] {
+            assert!(lines.get(&(kind, line.to_string())).is_some_and(|&count| count > 5), "{kind} {line}: {lines:?}");
+        }
+    }
+
+    #[test]
+    fn most_frames_arrive_where_a_port_is_wide() {
+        let (mut opens, mut broadcasts) = ([0; 2], [0; 2]);
+        for_each_event(|rack, _, line| {
+            let wide = usize::from(has_wide_port(rack));
+            match line.as_bytes()[0] {
+                b'O' => opens[wide] += 1,
+                b'B' => broadcasts[wide] += 1,
+                _ => {}
+            }
+        });
         assert!(opens[1] > opens[0], "{opens:?} OPENs without and with a wide port");
         assert!(broadcasts[1] > broadcasts[0], "{broadcasts:?} broadcasts without and with a wide port");
     }

@@ -85,6 +85,32 @@ large 'OPEN: ZONE VIOLATION before BAD DESTINATION' open.rs 'same_port(phys, pla
     'same_port(phys, place, found.phy) \&\& permitted(rows, source_of_open(\&arriving, frame[ZONE_BYTE]), found.group)'
 large 'a change notice: one phy of each port' smp.rs 'phy_set(phys, |_| true)' \
     'phy_set(phys, |_| true) \& !(0..phys.len()).filter(|\&phy| (0..phy).any(|lower| crate::ports::same_port(phys, lower, phy))).fold(0, |set, phy| set | 1 << phy)'
+# Bytes that are no group: those of the three places that read one are the same on both shelves.
+for shelf in large small; do
+    $shelf 'no group: the carried one modulo 128' smp.rs 'source_from_outside(&arriving, carried)' \
+        'source_from_outside(\&arriving, carried \& 0x7f)'
+    $shelf 'no group: byte 3 of a frame modulo 128' broadcast.rs 'frame\[GROUP_BYTE\])' 'frame[GROUP_BYTE] \& 0x7f)'
+    $shelf "no group: a route's modulo 128 in the search" open.rs 'map(RouteRecord::from)' \
+        'map(|route| RouteRecord { group: Some(Group::low_7_bits(route[9])), ..route.into() })'
+    $shelf "no group: a route's modulo 128 in the election" links.rs '\.filter(|record| record\.group\.is_some())' ''
+done
+large 'no group: only above 128' tables.rs '(byte <= 127)\.then_some(Group(byte))' \
+    '(byte <= 128).then_some(Group(byte \& 0x7f))'
+large 'no group: only 255' tables.rs '(byte <= 127)\.then_some(Group(byte))' '(byte < 255).then_some(Group(byte \& 0x7f))'
+large 'no group: 127 as well' tables.rs 'byte <= 127' 'byte < 127'
+large 'no group: refused on a phy that is not participating as well' speaking.rs 'Ok(arriving\.group)' \
+    'Group::from_outside(carried).map(|_| arriving.group).ok_or(Refusal::Kind)'
+large 'no group: a frame refused 5 on a phy that is not participating' broadcast.rs 'refuse_if(!arriving\.participating,' \
+    'Group::from_outside(frame[GROUP_BYTE]).ok_or(Refusal::Kind)?; refuse_if(!arriving.participating,'
+large 'no group: a skipped route ends the search' open.rs 'find_map(\(.*\))' 'next().and_then(\1)'
+large 'no group: an unknown function answered' smp.rs 'source_from_outside(&arriving, carried)?' \
+    'match request[1] { 0x93 | 0xc1 | 0x51 => source_from_outside(\&arriving, carried)?, _ => arriving.group }'
+large 'no group: refused before the length' smp.rs 'refuse_if(request\.len() < HEADER,' \
+    'source_from_outside(\&arriving, carried as u8)?; refuse_if(request.len() < HEADER,'
+large 'no group: byte 20 of an OPEN as well' open.rs 'let source = source_of_open' \
+    'if arriving.participating { Group::from_outside(frame[ZONE_BYTE]).ok_or(Refusal::Kind)?; } let source = source_of_open'
+large 'no group: byte 1 of a phy record as well' open.rs '\.map(PhyRecord::from)' \
+    '.map(|record| PhyRecord { ready: record[2] \& 1 == 1 \&\& record[1] <= 127, ..record.into() })'
 small 'groups modulo 8' permission.rs 'match rows.get(a.index()) {' \
     'let [a, b] = [a, b].map(|group| Group::low_7_bits(group.number() % 8)); match rows.get(a.index()) {'
 small 'groups 8 and 9 reach each other' permission.rs 'a.index() == GROUP_1 || b.index() == GROUP_1' \

@@ -22,7 +22,7 @@ use Rattle.wire.proofs.Sets.{member-setOf, count-front, tally-le, tally-add}
 use Rattle.permit.specs.Permission.{permissionsSized, Width}
 use Rattle.permit.proofs.Laws.{table-sized}
 use Rattle.tables.specs.Refusals.{Check, refuse, below, firstRefusal, Clear}
-use Rattle.tables.specs.Phys.{phyCount, participating}
+use Rattle.tables.specs.Phys.{phyRecord, phyCount, participating}
 use Rattle.tables.specs.Arrival.{arrivalChecks}
 use Rattle.tables.proofs.RefusalLaws.{none, here, next, first, agrees-not, front, back}
 use Rattle.tables.proofs.ArrivalLaws.{both, Arrived, arrival-clear}
@@ -112,7 +112,7 @@ tally-most f p n m h l self gone =
     omega (arith, t, one, past, tally-le f 0 p, tally-le f (p + 1) (n - p - 1))
 
 -- "so at most the number of phys less one"
-pub count-most : (w : ℕ) (phys permissions : List ℕ) (phy source : ℕ) → length phys % 12 ≡ 0 → phyCount phys ≤ 128 → phy < phyCount phys
+pub count-most : (w : ℕ) (phys permissions : List ℕ) (phy source : ℕ) → length phys % phyRecord ≡ 0 → phyCount phys ≤ 128 → phy < phyCount phys
     → physIn (toldSet w phys permissions phy source) ≤ phyCount phys - 1
 unfolding physIn toldSet
 count-most w phys permissions phy source e m h =

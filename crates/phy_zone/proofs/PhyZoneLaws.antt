@@ -99,22 +99,22 @@ length-configured phys request start i (suc n) =
     ∙ length-zoned phys (start + i) (first request i) (group request i)
 
 -- a store to another record, or past its bytes 0 and 1, is not seen
-zoned-keeps : (phys : List ℕ) (i b0 b1 j m : ℕ) → m < 12 → (j ≡ i → 2 ≤ m) → phyByte (zoned phys i b0 b1) j m ≡ phyByte phys j m
+zoned-keeps : (phys : List ℕ) (i b0 b1 j m : ℕ) → m < phyRecord → (j ≡ i → 2 ≤ m) → phyByte (zoned phys i b0 b1) j m ≡ phyByte phys j m
 unfolding zoned
 zoned-keeps phys i b0 b1 j m h k = go (ℕ-discrete j i)
   where
-    other : (12 * j + m ≡ 12 * i → ⊥) → (12 * j + m ≡ 12 * i + 1 → ⊥)
-        → getD (set (set phys (12 * i) (b0 % 32)) (12 * i + 1) (b1 % 128)) (12 * j + m) 0 ≡ getD phys (12 * j + m) 0
+    other : (phyRecord * j + m ≡ phyRecord * i → ⊥) → (phyRecord * j + m ≡ phyRecord * i + 1 → ⊥)
+        → getD (set (set phys (phyRecord * i) (b0 % 32)) (phyRecord * i + 1) (b1 % 128)) (phyRecord * j + m) 0 ≡ getD phys (phyRecord * j + m) 0
     other p q =
-        getD-set-other (set phys (12 * i) (b0 % 32)) (12 * i + 1) (12 * j + m) (b1 % 128) 0 q
-        ∙ getD-set-other phys (12 * i) (12 * j + m) (b0 % 32) 0 p
+        getD-set-other (set phys (phyRecord * i) (b0 % 32)) (phyRecord * i + 1) (phyRecord * j + m) (b1 % 128) 0 q
+        ∙ getD-set-other phys (phyRecord * i) (phyRecord * j + m) (b0 % 32) 0 p
 
-    go : Dec (j ≡ i) → getD (set (set phys (12 * i) (b0 % 32)) (12 * i + 1) (b1 % 128)) (12 * j + m) 0 ≡ getD phys (12 * j + m) 0
+    go : Dec (j ≡ i) → getD (set (set phys (phyRecord * i) (b0 % 32)) (phyRecord * i + 1) (b1 % 128)) (phyRecord * j + m) 0 ≡ getD phys (phyRecord * j + m) 0
     go (yes e) = let l = k e in other (λ q. omega arith) (λ q. omega arith)
     go (no n) = other (λ q. n (omega arith)) (λ q. n (omega arith))
 
 -- bytes 2 to 11 of every record stay
-pub configured-keeps : (phys request : List ℕ) (start i n j m : ℕ) → 2 ≤ m → m < 12
+pub configured-keeps : (phys request : List ℕ) (start i n j m : ℕ) → 2 ≤ m → m < phyRecord
     → phyByte (configured phys request start i n) j m ≡ phyByte phys j m
 unfolding configured
 configured-keeps phys request start i zero j m l h = refl
@@ -128,7 +128,7 @@ ready-configured phys request start i n j =
     ap (λ (x : ℕ). eqb (x % 2) 1) (configured-keeps phys request start i n j 2 (omega arith) (omega arith))
 
 -- records before the run, and behind it, stay whole
-pub configured-before : (phys request : List ℕ) (start i n j m : ℕ) → m < 12 → j < start + i
+pub configured-before : (phys request : List ℕ) (start i n j m : ℕ) → m < phyRecord → j < start + i
     → phyByte (configured phys request start i n) j m ≡ phyByte phys j m
 unfolding configured
 configured-before phys request start i zero j m h b = refl
@@ -136,7 +136,7 @@ configured-before phys request start i (suc n) j m h b =
     configured-before (zoned phys (start + i) (first request i) (group request i)) request start (suc i) n j m h (omega arith)
     ∙ zoned-keeps phys (start + i) (first request i) (group request i) j m h (λ e. omega arith)
 
-pub configured-behind : (phys request : List ℕ) (start i n j m : ℕ) → m < 12 → start + i + n ≤ j
+pub configured-behind : (phys request : List ℕ) (start i n j m : ℕ) → m < phyRecord → start + i + n ≤ j
     → phyByte (configured phys request start i n) j m ≡ phyByte phys j m
 unfolding configured
 configured-behind phys request start i zero j m h b = refl
@@ -148,15 +148,15 @@ configured-behind phys request start i (suc n) j m h b =
 zoned-first : (phys : List ℕ) (i b0 b1 : ℕ) → i < phyCount phys → phyByte (zoned phys i b0 b1) i 0 ≡ b0 % 32
 unfolding zoned
 zoned-first phys i b0 b1 h =
-    let z : 12 * i + 0 ≡ 12 * i = omega arith in
+    let z : phyRecord * i + 0 ≡ phyRecord * i = omega arith in
     rw z
-    (getD-set-other (set phys (12 * i) (b0 % 32)) (12 * i + 1) (12 * i) (b1 % 128) 0 (λ q. omega arith)
-    ∙ getD-set-same phys (12 * i) (b0 % 32) 0 (omega arith))
+    (getD-set-other (set phys (phyRecord * i) (b0 % 32)) (phyRecord * i + 1) (phyRecord * i) (b1 % 128) 0 (λ q. omega arith)
+    ∙ getD-set-same phys (phyRecord * i) (b0 % 32) 0 (omega arith))
 
 zoned-group : (phys : List ℕ) (i b0 b1 : ℕ) → i < phyCount phys → phyByte (zoned phys i b0 b1) i 1 ≡ b1 % 128
 unfolding zoned
 zoned-group phys i b0 b1 h =
-    getD-set-same (set phys (12 * i) (b0 % 32)) (12 * i + 1) (b1 % 128) 0 (simp length-set (omega arith))
+    getD-set-same (set phys (phyRecord * i) (b0 % 32)) (phyRecord * i + 1) (b1 % 128) 0 (simp length-set (omega arith))
 
 pub configured-holds : (phys request : List ℕ) (start i n d : ℕ) → i ≤ d → d < i + n → start + d < phyCount phys
     → (phyByte (configured phys request start i n) (start + d) 0 ≡ first request d % 32)
@@ -174,7 +174,7 @@ configured-holds phys request start i (suc n) d l u t =
         (phyByte (configured next request start (suc i) n) (start + e) 0 ≡ first request e % 32)
         × (phyByte (configured next request start (suc i) n) (start + e) 1 ≡ group request e % 128)
 
-    kept : (m : ℕ) → m < 12 → phyByte (configured next request start (suc i) n) (start + i) m ≡ phyByte next (start + i) m
+    kept : (m : ℕ) → m < phyRecord → phyByte (configured next request start (suc i) n) (start + i) m ≡ phyByte next (start + i) m
     kept m h = configured-before next request start (suc i) n (start + i) m h (omega arith)
 
     go : Dec (d ≡ i) → (suc i ≤ d → d < suc i + n → start + d < phyCount next → Holds d) → Holds d

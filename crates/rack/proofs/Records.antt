@@ -10,6 +10,7 @@ use lib.Seq.{sets-eq, drop-cons}
 use Rattle.wire.proofs.BitLaws.{each8}
 use Rattle.rack.specs.declared.PhyRecord.{PhyRecord}
 use Rattle.rack.specs.Rack.{bytesOf, rack, flat, rackTable}
+use Rattle.tables.specs.Phys.{phyRecord}
 use Rattle.lines.specs.Written.{written, Wrote}
 use Rattle.lines.proofs.Lines.{written-append, length-written}
 
@@ -27,45 +28,45 @@ eight : (i : ℕ) → i < 8 → i < length rack
 unfolding rack
 eight i h = h
 
--- every record has twelve bytes
-twelve : (i : ℕ) → i < 8 → length (bytesOf (getD rack i blank)) ≡ 12
+-- every record has its bytes
+whole-record : (i : ℕ) → i < 8 → length (bytesOf (getD rack i blank)) ≡ phyRecord
 unfolding rack blank
-twelve = each8 (λ (i : ℕ). length (bytesOf (getD rack i blank)) ≡ 12) refl refl refl refl refl refl refl refl
+whole-record = each8 (λ (i : ℕ). length (bytesOf (getD rack i blank)) ≡ phyRecord) refl refl refl refl refl refl refl refl
 
 -- the invariant: with the records from i on stored too, the table is the rack
 pub record Stored (t₀ t : List ℕ) (i : ℕ) : Type 0 where
   pub within : i ≤ 8
   pub same : length t ≡ length t₀
-  pub left : written t (i * 12) (flat (drop i rack)) ≡ written t₀ 0 (flat rack)
+  pub left : written t (i * phyRecord) (flat (drop i rack)) ≡ written t₀ 0 (flat rack)
 
 pub stored-start : (t : List ℕ) → Stored t t 0
 stored-start t = record { within = omega arith; same = refl; left = refl }
 
-pub stored-again : (t₀ t t₁ : List ℕ) (i : ℕ) → i < 8 → t₁ ≡ written t (i * 12) (bytesOf (getD rack i (record { first = 0; group = 0; flags = 0; address = [] }))) → Stored t₀ t i
+pub stored-again : (t₀ t t₁ : List ℕ) (i : ℕ) → i < 8 → t₁ ≡ written t (i * phyRecord) (bytesOf (getD rack i (record { first = 0; group = 0; flags = 0; address = [] }))) → Stored t₀ t i
     → Stored t₀ t₁ (i + 1)
 unfolding flat blank
 stored-again t₀ t t₁ i h e r = record {
   within = omega arith;
-  same = ap length e ∙ length-written t (i * 12) _ ∙ r .same;
+  same = ap length e ∙ length-written t (i * phyRecord) _ ∙ r .same;
   left =
-      ap (λ (l : List ℕ). written l ((i + 1) * 12) (flat (drop (i + 1) rack))) e
-      ∙ ap (λ (n : ℕ). written (written t (i * 12) (bytesOf (getD rack i blank))) n (flat (drop (i + 1) rack))) (place i (length (bytesOf (getD rack i blank))) (twelve i h))
-      ∙ sym (written-append (bytesOf (getD rack i blank)) (flat (drop (i + 1) rack)) t (i * 12))
-      ∙ ap (λ (n : ℕ). written t (i * 12) (flat (getD rack i blank ∷ drop n rack))) (add-one i)
-      ∙ ap (λ (l : List PhyRecord). written t (i * 12) (flat l)) (sym (drop-cons rack i blank (eight i h)))
+      ap (λ (l : List ℕ). written l ((i + 1) * phyRecord) (flat (drop (i + 1) rack))) e
+      ∙ ap (λ (n : ℕ). written (written t (i * phyRecord) (bytesOf (getD rack i blank))) n (flat (drop (i + 1) rack))) (place i (length (bytesOf (getD rack i blank))) (whole-record i h))
+      ∙ sym (written-append (bytesOf (getD rack i blank)) (flat (drop (i + 1) rack)) t (i * phyRecord))
+      ∙ ap (λ (n : ℕ). written t (i * phyRecord) (flat (getD rack i blank ∷ drop n rack))) (add-one i)
+      ∙ ap (λ (l : List PhyRecord). written t (i * phyRecord) (flat l)) (sym (drop-cons rack i blank (eight i h)))
       ∙ r .left;
 }
   where
-    place : (k n : ℕ) → n ≡ 12 → (k + 1) * 12 ≡ k * 12 + n
+    place : (k n : ℕ) → n ≡ phyRecord → (k + 1) * phyRecord ≡ k * phyRecord + n
     place k n p = omega arith
 
-pub stored-end : (t₀ t : List ℕ) (i : ℕ) → length t₀ ≡ 96 → 8 ≤ i → Stored t₀ t i → t ≡ rackTable
+pub stored-end : (t₀ t : List ℕ) (i : ℕ) → length t₀ ≡ 8 * phyRecord → 8 ≤ i → Stored t₀ t i → t ≡ rackTable
 unfolding rackTable rack flat written
 stored-end t₀ t i n h r =
     let w = r .within in
     let e : i ≡ 8 = omega arith in
-    sym (ap (λ (k : ℕ). written t (k * 12) (flat (drop k rack))) e)
+    sym (ap (λ (k : ℕ). written t (k * phyRecord) (flat (drop k rack))) e)
     ∙ r .left
     ∙ sets-eq (flat rack) t₀ 0 (omega arith)
-    ∙ ap (λ (l : List ℕ). flat rack ++ l) (drop-of-length-le t₀ {i = 96} (omega arith))
+    ∙ ap (λ (l : List ℕ). flat rack ++ l) (drop-of-length-le t₀ {i = 8 * phyRecord} (omega arith))
     ∙ append-nil (flat rack)

@@ -1,8 +1,10 @@
 // The bench rack: a fixed table of eight phys.
+use tables::PHY_RECORD;
 ghost use mathlib.Core.Path.{_≡_};
-ghost use Prim.Native.Nat.{_+_, _≤_};
+ghost use Prim.Native.Nat.{_+_, _*_, _≤_};
 ghost use lib.ListN.{length};
 ghost use Rattle.permit.specs.Permission.{startTable};
+ghost use Rattle.tables.specs.Phys.{phyRecord};
 ghost use Rattle.lines.specs.Written.{written};
 ghost use Rattle.rack.specs.Rack.{bytesOf, rackTable};
 
@@ -66,7 +68,7 @@ const RACK: [PhyRecord; 8] = [
 
 // One record at a place of the table.
 fn store(phys: &mut [u8], at: usize, r: PhyRecord)
-    requires { ⌜ at + 12 ≤ length (now phys) ⌝ }
+    requires { ⌜ at + phyRecord ≤ length (now phys) ⌝ }
     ensures { λ _. ⌜ now (phys .exit) ≡ written (now (phys .entry)) at (bytesOf r) ⌝ }
 {
     let head = [r.first, r.group, r.flags, 0];
@@ -77,19 +79,19 @@ fn store(phys: &mut [u8], at: usize, r: PhyRecord)
 
 // The phy table that the bench starts from.
 fn start_rack(phys: &mut [u8])
-    requires { ⌜ length (now phys) ≡ 96 ⌝ }
+    requires { ⌜ length (now phys) ≡ 8 * phyRecord ⌝ }
     ensures { λ _. ⌜ now (phys .exit) ≡ rackTable ⌝ }
 {
     let mut i: usize = 0;
     while i < 8 {
-        store(phys, i * 12, RACK[i]);
+        store(phys, i * PHY_RECORD, RACK[i]);
         i += 1;
     }
 }
 
 // The rack as it stands before any event.
 pub fn start(phys: &mut [u8], permissions: &mut [u8])
-    requires { ⌜ (length (now phys) ≡ 96) × (length (now permissions) ≡ 2048) ⌝ }
+    requires { ⌜ (length (now phys) ≡ 8 * phyRecord) × (length (now permissions) ≡ 2048) ⌝ }
     ensures { λ _. ⌜ (now (phys .exit) ≡ rackTable) × (now (permissions .exit) ≡ startTable 16) ⌝ }
 {
     start_rack(phys);

@@ -11,7 +11,7 @@ use lib.ListN.{length, getD, set, drop, length-set, List·getD-eq-default}
 use lib.Seq.{getD-set-same}
 use Rattle.wire.specs.PhySet.{member}
 use Rattle.wire.proofs.Sets.{member-front}
-use Rattle.tables.specs.Phys.{phyGroup, phyByte, ready}
+use Rattle.tables.specs.Phys.{phyRecord, phyGroup, phyByte, ready}
 use Rattle.tables.specs.Ports.{samePort}
 use Rattle.tables.proofs.PortLaws.{port-unready}
 use Rattle.links.specs.Links.{left}
@@ -60,14 +60,14 @@ no-return w phys routes t phy frame buffer q e =
 
 -- ---- leaving
 left-unready : (phys : List ℕ) (phy : ℕ) → ready (left phys phy) phy ≡ false
-left-unready phys phy = ne-eqb _ 1 (λ e. odd (decLt (12 * phy + 2) (length phys)) e)
+left-unready phys phy = ne-eqb _ 1 (λ e. odd (decLt (phyRecord * phy + 2) (length phys)) e)
   where
-    odd : Dec (12 * phy + 2 < length phys) → phyByte (left phys phy) phy 2 % 2 ≡ 1 → ⊥
+    odd : Dec (phyRecord * phy + 2 < length phys) → phyByte (left phys phy) phy 2 % 2 ≡ 1 → ⊥
     odd (yes l) e =
-        let g : phyByte (left phys phy) phy 2 ≡ phyByte phys phy 2 / 2 % 2 * 2 = getD-set-same phys (12 * phy + 2) (phyByte phys phy 2 / 2 % 2 * 2) 0 l in
+        let g : phyByte (left phys phy) phy 2 ≡ phyByte phys phy 2 / 2 % 2 * 2 = getD-set-same phys (phyRecord * phy + 2) (phyByte phys phy 2 / 2 % 2 * 2) 0 l in
         omega arith
     odd (no n) e =
-        let s : length (left phys phy) ≡ length phys = length-set phys (12 * phy + 2) (phyByte phys phy 2 / 2 % 2 * 2) in
+        let s : length (left phys phy) ≡ length phys = length-set phys (phyRecord * phy + 2) (phyByte phys phy 2 / 2 % 2 * 2) in
         let g : phyByte (left phys phy) phy 2 ≡ 0 = List·getD-eq-default (left phys phy) 0 (omega arith) in
         omega arith
 

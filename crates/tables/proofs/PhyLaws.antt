@@ -12,16 +12,16 @@ use Rattle.wire.specs.Bits.{tab}
 use Rattle.wire.specs.PhySet.{member}
 use Rattle.wire.proofs.Loops.{Filled, fill-end}
 use Rattle.wire.proofs.Sets.{member-setOf}
-use Rattle.tables.specs.Phys.{phyCount, phyByte, ready, readySet, emptySet, zoned}
+use Rattle.tables.specs.Phys.{phyRecord, phyCount, phyByte, ready, readySet, emptySet, zoned}
 
 -- byte 0, as the code reads it
-pub byte0 : (phys : List ℕ) (i : ℕ) → getD phys (12 * i) 0 ≡ phyByte phys i 0
-byte0 phys i = ap (λ (k : ℕ). getD phys k 0) (sym (add-zero (12 * i)))
+pub byte0 : (phys : List ℕ) (i : ℕ) → getD phys (phyRecord * i) 0 ≡ phyByte phys i 0
+byte0 phys i = ap (λ (k : ℕ). getD phys k 0) (sym (add-zero (phyRecord * i)))
 
 -- past the last record no phy is ready
-pub ready-out : (phys : List ℕ) (i : ℕ) → length phys % 12 ≡ 0 → phyCount phys ≤ i → false ≡ ready phys i
+pub ready-out : (phys : List ℕ) (i : ℕ) → length phys % phyRecord ≡ 0 → phyCount phys ≤ i → false ≡ ready phys i
 ready-out phys i w h =
-    let l : length phys ≤ 12 * i + 2 = omega arith in
+    let l : length phys ≤ phyRecord * i + 2 = omega arith in
     ap (λ (x : ℕ). eqb (x % 2) 1) (sym (List·getD-eq-default phys 0 l))
 
 pub length-zoned : (phys : List ℕ) (i b0 b1 : ℕ) → length (zoned phys i b0 b1) ≡ length phys

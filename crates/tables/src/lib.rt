@@ -7,7 +7,7 @@ ghost use mathlib.Core.List.{_++_};
 ghost use Prim.Native.Nat.{_+_, _*_, _%_, _<_, _≤_};
 ghost use lib.ListN.{length, drop};
 ghost use Rattle.wire.specs.PhySet.{setByte};
-ghost use Rattle.tables.specs.Phys.{phyCount, participating, phyPriority, phyGroup, phyAddress, ready, known, readySet, emptySet, zoned, physSized};
+ghost use Rattle.tables.specs.Phys.{phyRecord, phyCount, participating, phyPriority, phyGroup, phyAddress, ready, known, readySet, emptySet, zoned, physSized};
 ghost use Rattle.tables.specs.Ports.{samePort};
 ghost use Rattle.tables.specs.Routes.{routeCount, routeAddress, routePhy, routeGroup, routePriority, routesSized};
 ghost use Rattle.tables.specs.Refusals.{firstRefusal};
@@ -177,7 +177,7 @@ pub fn arrival_refusal(phys: &[u8], phy: PhyNumber, sizes: bool, room: bool, awa
 
 // Whether there is a phy i and it is ready.
 fn ready_at(phys: &[u8], i: usize) -> bool
-    requires { ⌜ length (now phys) % 12 ≡ 0 ⌝ }
+    requires { ⌜ length (now phys) % phyRecord ≡ 0 ⌝ }
     ensures { λ r. ⌜ r ≡ ready (now (phys .entry)) i ⌝ }
 {
     if phys.len() / PHY_RECORD <= i {
@@ -188,7 +188,7 @@ fn ready_at(phys: &[u8], i: usize) -> bool
 
 // Byte k of the set, from its highest bit down.
 fn ready_byte(phys: &[u8], k: usize) -> u8
-    requires { ⌜ (length (now phys) % 12 ≡ 0) × (k < 16) ⌝ }
+    requires { ⌜ (length (now phys) % phyRecord ≡ 0) × (k < 16) ⌝ }
     ensures { λ r. ⌜ r ≡ setByte (ready (now (phys .entry))) k ⌝ }
 {
     let mut byte: u8 = 0;
@@ -202,7 +202,7 @@ fn ready_byte(phys: &[u8], k: usize) -> u8
 
 // The set of all ready phys, in the first sixteen bytes.
 pub fn write_ready_set(phys: &[u8], set: &mut [u8])
-    requires { ⌜ (length (now phys) % 12 ≡ 0) × (16 ≤ length (now set)) ⌝ }
+    requires { ⌜ (length (now phys) % phyRecord ≡ 0) × (16 ≤ length (now set)) ⌝ }
     ensures { λ _. ⌜ now (set .exit) ≡ readySet (now (phys .entry)) ++ drop 16 (now (set .entry)) ⌝ }
 {
     let mut k: usize = 0;

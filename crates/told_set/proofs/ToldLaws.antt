@@ -11,7 +11,7 @@ use lib.ListN.{length}
 use Rattle.wire.specs.PhySet.{member, some}
 use Rattle.wire.proofs.Sets.{member-setOf, length-setOf}
 use Rattle.permit.specs.Permission.{reaches}
-use Rattle.tables.specs.Phys.{phyCount, phyGroup, ready}
+use Rattle.tables.specs.Phys.{phyRecord, phyCount, phyGroup, ready}
 use Rattle.tables.specs.Ports.{samePort}
 use Rattle.tables.proofs.ArrivalLaws.{never, both}
 use Rattle.tables.proofs.PhyLaws.{ready-out}
@@ -97,7 +97,7 @@ module _ (w : ℕ) (phys permissions : List ℕ) (phy source i : ℕ) where
   told-later j l e = rw (some-one (permittedInPort w phys permissions source i) i j l e, and-false (not (samePort phys phy i))) (and-false (permitted w phys permissions source i))
 
   -- beyond the table
-  pub told-out : length phys % 12 ≡ 0 → phyCount phys ≤ i → false ≡ told w phys permissions phy source i
+  pub told-out : length phys % phyRecord ≡ 0 → phyCount phys ≤ i → false ≡ told w phys permissions phy source i
   unfolding told permitted
   told-out e h = rw (← ready-out phys i e h)
 

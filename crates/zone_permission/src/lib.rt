@@ -11,7 +11,7 @@ ghost use lib.ListN.{length, drop};
 ghost use Rattle.permit.specs.Permission.{groups, setBoth, Width, Table};
 ghost use Rattle.permit.specs.Orders.{apply, rowsEnd};
 ghost use Rattle.tables.specs.Refusals.{firstRefusal};
-ghost use Rattle.tables.specs.Phys.{phyCount};
+ghost use Rattle.tables.specs.Phys.{phyRecord, phyCount};
 ghost use Rattle.requests.specs.Requests.{Lent, Leaves};
 ghost use Rattle.zone_permission.specs.ZonePermission.{source, target, newValue, Accepted, singleChecks, batchChecks, operationChecks, permissionChecks, ordersOf, permissionSet, permissionReply};
 
@@ -145,7 +145,7 @@ fn obey(width: usize, permissions: &mut [u8], request: &[u8])
 
 // UPDATE COMPLETE decides the set.
 fn write_permission_set(phys: &[u8], request: &[u8], set: &mut [u8])
-    requires { ⌜ (length (now phys) % 12 ≡ 0) × (12 ≤ length (now request)) × (16 ≤ length (now set)) ⌝ }
+    requires { ⌜ (length (now phys) % phyRecord ≡ 0) × (12 ≤ length (now request)) × (16 ≤ length (now set)) ⌝ }
     ensures { λ _. ⌜ now (set .exit) ≡ permissionSet (now (phys .entry)) (now (request .entry)) ++ drop 16 (now (set .entry)) ⌝ }
 {
     if request[9] % 2 == 1 {

@@ -19,7 +19,7 @@ use Rattle.told_set.specs.ToldSet.{permitted, permittedInPort, told, toldSet}
 use Rattle.broadcasts.specs.Broadcasts.{frameByte, frameOf}
 use Rattle.requests.specs.Requests.{smpSource, right, replied}
 use Rattle.zone_permission.specs.ZonePermission.{operationChecks, ordersOf, permissionReply}
-use Rattle.smp.specs.Smp.{smpReply, lengthField}
+use Rattle.rules.specs.Rules.{smpReply, lengthField}
 use Rattle.rack.specs.Rack.{rack, flat, rackTable}
 use Rattle.lines.specs.Text.{digits, decimal, line}
 use Rattle.call_words.specs.Gives.{smpGives, openGives, primitiveGives}

@@ -18,8 +18,9 @@ use Rattle.tables.proofs.ArrivalLaws.{numbered}
 use Rattle.links.specs.Links.{identified, identifyFront}
 use Rattle.zone_report.proofs.ReportLaws.{report-dwords-most}
 use Rattle.requests.specs.Requests.{smpSource}
-use Rattle.smp.specs.Smp.{functionOf, roomFor, requestChecks, smpReply, lengthField, smpChecks, valuesOf, buffersOf}
-use Rattle.smp.proofs.SmpLaws.{field-51, field-none}
+use Rattle.rules.specs.Rules.{functionOf, smpReply, lengthField}
+use Rattle.smp.specs.Smp.{roomFor, requestChecks, smpChecks, valuesOf, buffersOf}
+use Rattle.rules.proofs.RuleLaws.{field-51, field-none}
 use Rattle.boundary.specs.C.{orElse}
 use Rattle.boundary.specs.Promises.{RefusedInC, AsDocument01, OtherLength, NoByte}
 use Rattle.boundary.proofs.Crossing.{stopped, as-follows, behind}

@@ -9,7 +9,8 @@ use Rattle.tables.specs.Refusals.{Check, refuse, below, same, differ, firstRefu
 use Rattle.tables.specs.Outcome.{Answer, refusal, answer, Out, out, outcome}
 use Rattle.tables.specs.Arrival.{arrivalChecks}
 use Rattle.links.specs.Links.{identifyFront, identified}
-use Rattle.smp.specs.Smp.{functionOf, roomFor, requestChecks, smpReply, lengthField, valuesOf, buffersOf}
+use Rattle.rules.specs.Rules.{functionOf, smpReply, lengthField}
+use Rattle.smp.specs.Smp.{roomFor, requestChecks, valuesOf, buffersOf}
 use Rattle.boundary.specs.declared.ElectedC.{ElectedC}
 use Rattle.boundary.specs.declared.OpenedC.{OpenedC}
 use Rattle.boundary.specs.declared.ToldC.{ToldC}

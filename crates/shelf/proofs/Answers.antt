@@ -16,8 +16,9 @@ use Rattle.opens.specs.Open.{openedAs, opened, openOut}
 use Rattle.opens.proofs.OpenSteps.{judged}
 use Rattle.opens.proofs.Unique.{one-answer}
 use Rattle.requests.specs.Requests.{Reply, turnedDown}
-use Rattle.smp.specs.Smp.{functionOf, smpReply, valuesOf, buffersOf}
-use Rattle.smp.proofs.SmpLaws.{down}
+use Rattle.rules.specs.Rules.{functionOf, smpReply}
+use Rattle.smp.specs.Smp.{valuesOf, buffersOf}
+use Rattle.rules.proofs.RuleLaws.{down}
 use Rattle.shelf.specs.Calls.{startUp, leaving, identify, elect, opening, primitive, broadcastFrame, smp, outcomeOf, handedIn, answerOf}
 use Rattle.shelf.specs.Promises.{Refusals, TurnedDown}
 

@@ -23,7 +23,8 @@ use Rattle.requests.specs.Requests.{smpSource, right}
 use Rattle.phy_zone.specs.PhyZone.{phyZoneReply}
 use Rattle.zone_permission.specs.ZonePermission.{permissionReply}
 use Rattle.zone_report.specs.ZoneReport.{reportReply}
-use Rattle.smp.specs.Smp.{roomFor, smpReply, lengthField, smpOut}
+use Rattle.rules.specs.Rules.{smpReply, lengthField}
+use Rattle.smp.specs.Smp.{roomFor, smpOut}
 use Rattle.shelf.specs.Calls.{outcomeOf}
 use Rattle.shelf.specs.Promises.{NoGroupNoAnswer, CarriedUnread, Skipped}
 

@@ -16,8 +16,8 @@ use Rattle.election.proofs.ElectionLaws.{greatest}
 use Rattle.told_set.specs.ToldSet.{toldSet}
 use Rattle.broadcasts.specs.Broadcasts.{frameSource}
 use Rattle.told_set.proofs.ToldLaws.{length-told}
-use Rattle.smp.specs.Smp.{smpReply}
-use Rattle.smp.proofs.SmpLaws.{set-16}
+use Rattle.rules.specs.Rules.{smpReply}
+use Rattle.rules.proofs.RuleLaws.{set-16}
 use Rattle.rack.specs.Rack.{rackTable}
 use Rattle.shelf.specs.Calls.{Call, smp, outcomeOf, answerOf, after}
 use Rattle.shelf.specs.Cases.{asks, fresh, single89, after1}

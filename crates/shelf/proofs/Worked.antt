@@ -22,7 +22,7 @@ use Rattle.phy_zone.specs.PhyZone.{sound, allSound, configured, phyZoneReply}
 use Rattle.zone_permission.specs.ZonePermission.{operationChecks, ordersOf, permissionReply}
 use Rattle.zone_report.specs.ZoneReport.{rowCount, rows, reportReply}
 use Rattle.shown_rows.specs.ShownRows.{shownByte, shownRows}
-use Rattle.smp.specs.Smp.{smpReply, lengthField}
+use Rattle.rules.specs.Rules.{smpReply, lengthField}
 use Rattle.rack.specs.Rack.{rack, flat, rackTable}
 use Rattle.shelf.specs.Cases.{Cases, LaterToo, asks, fresh, single89, after1, opens2, changes2, phyZone, batch, rows89}
 

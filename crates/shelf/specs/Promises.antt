@@ -26,7 +26,8 @@ use Rattle.searches.specs.Search.{search}
 use Rattle.opens.specs.Open.{openedAs, openSource, openOut}
 use Rattle.told_set.specs.ToldSet.{permitted}
 use Rattle.broadcasts.specs.Broadcasts.{toldAs, frameSource, primitiveOut, broadcastOut}
-use Rattle.smp.specs.Smp.{answeredAs, functionOf}
+use Rattle.rules.specs.Rules.{functionOf}
+use Rattle.smp.specs.Smp.{answeredAs}
 use Rattle.shelf.specs.Calls.{Call, startUp, leaving, opening, primitive, broadcastFrame, smp, outcomeOf, handedIn, answerOf, after, run, orders}
 
 -- ---- Answers

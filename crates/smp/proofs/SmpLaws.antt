@@ -1,151 +1,30 @@
--- SMP: the rule that the function byte picks, the call's end, and the orders that it accepts.
+-- SMP: the call's end, and the orders that it accepts.
 -- Assumes nothing.
-use mathlib.Core.Path.{_≡_, refl, sym, ap, ap₂, _∙_, subst}
+use mathlib.Core.Path.{_≡_, refl, sym, ap, _∙_}
 use mathlib.Core.Bool.{Bool, true, false, cond, _&&_}
-use mathlib.Core.List.{List, [], _∷_, _++_}
-use Prim.Native.Nat.{ℕ, zero, suc, _+_, _/_, _%_, _≤_}
+use mathlib.Core.List.{List, [], _∷_}
+use Prim.Native.Nat.{ℕ, _+_, _≤_}
 use native.Mathlib.Decide.{ℕ-discrete}
-use native.Mathlib.Omega.{arith}
 use borrow.Author.Tests.{leb-true, eq-eqb, ne-eqb}
 use lib.Dec.{eqb, leb}
-use lib.ListN.{length, getD, drop, length-append}
+use lib.ListN.{length, drop}
 use Rattle.wire.specs.PhySet.{physIn}
-use Rattle.wire.proofs.Sets.{length-setOf, count-front}
+use Rattle.wire.proofs.Sets.{count-front}
 use Rattle.permit.specs.Permission.{permissionsSized, Width, Table}
 use Rattle.permit.proofs.Laws.{table-sized}
 use Rattle.permit.specs.Orders.{Order, apply}
 use Rattle.permit.specs.History.{Valid}
 use Rattle.tables.specs.Refusals.{firstRefusal}
-use Rattle.tables.specs.Outcome.{answer, Out, out, outcome}
-use Rattle.tables.specs.Phys.{readySet, emptySet}
+use Rattle.tables.specs.Outcome.{answer, out, outcome}
 use Rattle.tables.specs.Arrival.{arrivalChecks}
 use Rattle.tables.proofs.ArrivalLaws.{both, arrived, arrival-clear}
 use Rattle.tables.proofs.OutcomeLaws.{gives}
-use Rattle.requests.specs.Requests.{Reply, turnedDown, replied, Lent, Leaves, responseOf}
-use Rattle.phy_zone.specs.PhyZone.{phyZoneReply}
-use Rattle.zone_permission.specs.ZonePermission.{permissionChecks, permissionSet, permissionReply, ordersOf}
+use Rattle.requests.specs.Requests.{Lent, Leaves}
+use Rattle.zone_permission.specs.ZonePermission.{ordersOf}
 use Rattle.zone_permission.proofs.PermissionLaws.{accepted, valid-orders}
-use Rattle.zone_report.specs.ZoneReport.{reportReply}
-use Rattle.smp.specs.Smp.{functionOf, smpReply, lengthField, roomFor, smpChecks, valuesOf, buffersOf, smpOut, acceptedOrders}
-
--- ---- the rule that the function byte picks
-module _ (w : ℕ) (phys permissions : List ℕ) (phy carried : ℕ) (request : List ℕ) where
-  abbrev F : ℕ
-  F = functionOf request
-
-  pub is-93 : F ≡ 0x93 → smpReply w phys permissions phy carried request ≡ phyZoneReply w phys permissions phy carried request
-  unfolding smpReply
-  is-93 e = rw (eq-eqb F 0x93 e)
-
-  pub is-c1 : F ≡ 0xc1 → smpReply w phys permissions phy carried request ≡ permissionReply w phys permissions phy carried request
-  unfolding smpReply
-  is-c1 e = let n : F ≡ 0x93 → ⊥ = λ z. omega arith in rw (ne-eqb F 0x93 n, eq-eqb F 0xc1 e)
-
-  pub is-51 : F ≡ 0x51 → smpReply w phys permissions phy carried request ≡ reportReply w phys permissions phy carried request
-  unfolding smpReply
-  is-51 e =
-      let n : F ≡ 0x93 → ⊥ = λ z. omega arith in
-      let m : F ≡ 0xc1 → ⊥ = λ z. omega arith in
-      rw (ne-eqb F 0x93 n, ne-eqb F 0xc1 m, eq-eqb F 0x51 e)
-
-  pub is-none : (F ≡ 0x93 → ⊥) → (F ≡ 0xc1 → ⊥) → (F ≡ 0x51 → ⊥) → smpReply w phys permissions phy carried request ≡ turnedDown 0x01 phys permissions
-  unfolding smpReply
-  is-none n m k = rw (ne-eqb F 0x93 n, ne-eqb F 0xc1 m, ne-eqb F 0x51 k)
-
-  -- what the arms leave
-  module _ (response set : List ℕ) (r len : ℕ) (phys₁ permissions₁ response₁ set₁ : List ℕ) where
-    abbrev Done : Type 0
-    Done = Leaves F (smpReply w phys permissions phy carried request) response set r len phys₁ permissions₁ response₁ set₁
-
-    carry : (f : ℕ) (p : Reply) → F ≡ f → smpReply w phys permissions phy carried request ≡ p
-        → Leaves f p response set r len phys₁ permissions₁ response₁ set₁ → Leaves F (smpReply w phys permissions phy carried request) response set r len phys₁ permissions₁ response₁ set₁
-    carry f p e q l = rw (e, q) l
-
-    pub leaves-93 : F ≡ 0x93 → Leaves 0x93 (phyZoneReply w phys permissions phy carried request) response set r len phys₁ permissions₁ response₁ set₁
-        → Leaves F (smpReply w phys permissions phy carried request) response set r len phys₁ permissions₁ response₁ set₁
-    leaves-93 e l = carry 0x93 _ e (is-93 e) l
-
-    pub leaves-c1 : F ≡ 0xc1 → Leaves 0xc1 (permissionReply w phys permissions phy carried request) response set r len phys₁ permissions₁ response₁ set₁
-        → Leaves F (smpReply w phys permissions phy carried request) response set r len phys₁ permissions₁ response₁ set₁
-    leaves-c1 e l = carry 0xc1 _ e (is-c1 e) l
-
-    pub leaves-51 : F ≡ 0x51 → Leaves 0x51 (reportReply w phys permissions phy carried request) response set r len phys₁ permissions₁ response₁ set₁
-        → Leaves F (smpReply w phys permissions phy carried request) response set r len phys₁ permissions₁ response₁ set₁
-    leaves-51 e l = carry 0x51 _ e (is-51 e) l
-
-  pub leaves-none : (response set response₁ set₁ : List ℕ) (r len : ℕ) → (F ≡ 0x93 → ⊥) → (F ≡ 0xc1 → ⊥) → (F ≡ 0x51 → ⊥) → r ≡ 1 → len ≡ 4
-      → response₁ ≡ (0x41 ∷ F ∷ 1 ∷ 0 ∷ []) ++ drop 4 response → set₁ ≡ emptySet ++ drop 16 set
-      → Leaves F (smpReply w phys permissions phy carried request) response set r len phys permissions response₁ set₁
-  leaves-none response set response₁ set₁ r len n m k er ew ea es =
-      rw (is-none n m k)
-      (record { answered = er; counted = ew; physThen = refl; permissionsThen = refl; responded = ea; told = es })
-
-  -- ---- by cases on the function byte, once for every law of the reply
-  each : (Q : Reply → Type 0) → Q (phyZoneReply w phys permissions phy carried request) → Q (permissionReply w phys permissions phy carried request)
-      → Q (reportReply w phys permissions phy carried request) → Q (turnedDown 0x01 phys permissions) → Q (smpReply w phys permissions phy carried request)
-  unfolding smpReply
-  each Q a b c d = go (eqb F 0x93) (eqb F 0xc1) (eqb F 0x51)
-    where
-      go : (x y z : Bool)
-          → Q (cond x (phyZoneReply w phys permissions phy carried request) (cond y (permissionReply w phys permissions phy carried request)
-          (cond z (reportReply w phys permissions phy carried request) (turnedDown 0x01 phys permissions))))
-      go true y z = a
-      go false true z = b
-      go false false true = c
-      go false false false = d
-
--- ---- laws of every reply
--- of an accepted and of a turned-down one
-either : (Q : Reply → Type 0) (n : ℕ) (p : Reply) (phys permissions : List ℕ) → Q p → ((m : ℕ) → Q (turnedDown (suc m) phys permissions)) → Q (replied n p phys permissions)
-unfolding replied
-either Q zero p phys permissions a d = a
-either Q (suc n) p phys permissions a d = d n
-
-empty-16 : length emptySet ≡ 16
-unfolding emptySet
-empty-16 = refl
-
-ready-16 : (phys : List ℕ) → length (readySet phys) ≡ 16
-unfolding readySet
-ready-16 phys = length-setOf _
-
-update-16 : (phys request : List ℕ) → length (permissionSet phys request) ≡ 16
-update-16 phys request = go (eqb (getD request 9 0 % 2) 1)
-  where
-    go : (b : Bool) → length (cond b (readySet phys) emptySet) ≡ 16
-    go true = ready-16 phys
-    go false = empty-16
-
--- its set has sixteen bytes
-pub set-16 : (w : ℕ) (phys permissions : List ℕ) (phy carried : ℕ) (request : List ℕ) → length ((smpReply w phys permissions phy carried request) .set) ≡ 16
-unfolding phyZoneReply permissionReply reportReply
-set-16 w phys permissions phy carried request =
-    each w phys permissions phy carried request (λ p. length (p .set) ≡ 16)
-    (either (λ p. length (p .set) ≡ 16) _ _ phys permissions (ready-16 phys) (λ m. empty-16))
-    (either (λ p. length (p .set) ≡ 16) _ _ phys permissions (update-16 phys request) (λ m. empty-16))
-    (either (λ p. length (p .set) ≡ 16) _ _ phys permissions empty-16 (λ m. empty-16))
-    empty-16
-
--- ---- the length field
-module _ (w : ℕ) (phys permissions : List ℕ) (phy carried : ℕ) (request : List ℕ) where
-  pub field-51 : (r : ℕ) → functionOf request ≡ 0x51 → r ≡ length ((reportReply w phys permissions phy carried request) .rest) / 4
-      → r ≡ lengthField w phys permissions phy carried request
-  unfolding lengthField
-  field-51 r e h = rw (is-51 w phys permissions phy carried request e) h
-
-  pub field-none : (functionOf request ≡ 0x51 → ⊥) → 0 ≡ lengthField w phys permissions phy carried request
-  unfolding lengthField smpReply phyZoneReply permissionReply
-  field-none n = rw (ne-eqb (functionOf request) 0x51 n) (go (eqb (functionOf request) 0x93) (eqb (functionOf request) 0xc1))
-    where
-      none : (k : ℕ) (p : Reply) → p .rest ≡ [] → 0 ≡ length ((replied k p phys permissions) .rest) / 4
-      none k p e = either (λ q. 0 ≡ length (q .rest) / 4) k p phys permissions (rw e) (λ m. refl)
-
-      go : (x y : Bool)
-          → 0 ≡ length ((cond x (phyZoneReply w phys permissions phy carried request) (cond y (permissionReply w phys permissions phy carried request)
-          (turnedDown 0x01 phys permissions))) .rest) / 4
-      go true y = none _ _ refl
-      go false true = none _ _ refl
-      go false false = refl
+use Rattle.rules.specs.Rules.{functionOf, smpReply}
+use Rattle.rules.proofs.RuleLaws.{set-16, other-table, order-table, passed}
+use Rattle.smp.specs.Smp.{roomFor, smpChecks, valuesOf, buffersOf, acceptedOrders}
 
 -- ---- the call
 -- as the code has it: s is what was asked of the permission table's size, r the number of the shared rows
@@ -168,12 +47,6 @@ smp-lent w phys permissions phy carried request response set r h e z =
       responseRoom = leb-true _ _ (room .0);
       setRoom = leb-true _ _ (room .1);
     }
-
--- the set that a rule leaves has sixteen bytes at least
-pub told-long : (w : ℕ) (phys permissions : List ℕ) (phy carried : ℕ) (request response set : List ℕ) (result written : ℕ) (phys₁ permissions₁ response₁ set₁ : List ℕ)
-    → Leaves (functionOf request) (smpReply w phys permissions phy carried request) response set result written phys₁ permissions₁ response₁ set₁ → 16 ≤ length set₁
-told-long w phys permissions phy carried request response set result written phys₁ permissions₁ response₁ set₁ l =
-    omega (arith, ap length (l .told), length-append ((smpReply w phys permissions phy carried request) .set) (drop 16 set), set-16 w phys permissions phy carried request)
 
 pub smp-gives : (w : ℕ) (phys permissions : List ℕ) (phy carried : ℕ) (request response set : List ℕ) (r n result written count : ℕ) (old : List (List ℕ))
     (phys₁ permissions₁ response₁ set₁ : List ℕ) → r ≡ n → r ≡ 0
@@ -199,32 +72,7 @@ permissionsAfter w phys permissions phy carried request room =
     permissions
 
 -- ---- the orders that the call accepts
--- a reply whose permission table is the one handed in, whatever its result
-same-table : (n : ℕ) (p : Reply) (phys permissions : List ℕ) → p .permissions ≡ permissions → (replied n p phys permissions) .permissions ≡ permissions
-same-table n p phys permissions e = either (λ q. q .permissions ≡ permissions) n p phys permissions e (λ m. refl)
-
 module _ (w : ℕ) (phys permissions : List ℕ) (phy carried : ℕ) (request : List ℕ) where
-  other-table : (functionOf request ≡ 0xc1 → ⊥) → (smpReply w phys permissions phy carried request) .permissions ≡ permissions
-  unfolding smpReply phyZoneReply reportReply
-  other-table n = rw (ne-eqb (functionOf request) 0xc1 n) (go (eqb (functionOf request) 0x93) (eqb (functionOf request) 0x51))
-    where
-      go : (x z : Bool)
-          → (cond x (phyZoneReply w phys permissions phy carried request) (cond z (reportReply w phys permissions phy carried request)
-          (turnedDown 0x01 phys permissions))) .permissions ≡ permissions
-      go true z = same-table _ _ phys permissions refl
-      go false true = same-table _ _ phys permissions refl
-      go false false = refl
-
-  -- C1h: the orders at 00h, and nothing at any other result
-  order-table : functionOf request ≡ 0xc1
-      → (smpReply w phys permissions phy carried request) .permissions
-      ≡ apply w (cond (eqb ((smpReply w phys permissions phy carried request) .result) 0) (ordersOf w request) []) permissions
-  unfolding permissionReply apply
-  order-table e = rw (is-c1 w phys permissions phy carried request e) (either
-      (λ q. q .permissions ≡ apply w (cond (eqb (q .result) 0) (ordersOf w request) []) permissions)
-      (firstRefusal (permissionChecks w phys permissions phy carried request)) _ phys permissions refl
-      (λ m. rw (ne-eqb (suc m) 0 (λ z. omega arith))))
-
   -- the permission table after the call is the table before with the accepted orders applied
   pub orders-applied : (room : Bool)
       → permissionsAfter w phys permissions phy carried request room
@@ -237,18 +85,8 @@ module _ (w : ℕ) (phys permissions : List ℕ) (phy carried : ℕ) (request : 
           → cond x ((smpReply w phys permissions phy carried request) .permissions) permissions
           ≡ apply w (cond (x && (eqb (functionOf request) 0xc1 && eqb ((smpReply w phys permissions phy carried request) .result) 0)) (ordersOf w request) []) permissions
       go false d = refl
-      go true (yes e) = rw (eq-eqb (functionOf request) 0xc1 e) (order-table e)
-      go true (no n) = rw (ne-eqb (functionOf request) 0xc1 n) (other-table n)
-
-  -- a reply to C1h whose result is 00h is to a request that its checks let pass
-  passed : functionOf request ≡ 0xc1 → (smpReply w phys permissions phy carried request) .result ≡ 0
-      → firstRefusal (permissionChecks w phys permissions phy carried request) ≡ 0
-  unfolding permissionReply replied
-  passed e z = go (firstRefusal (permissionChecks w phys permissions phy carried request)) _ (rw (is-c1 w phys permissions phy carried request e) at z)
-    where
-      go : (n : ℕ) (p : Reply) → (replied n p phys permissions) .result ≡ 0 → n ≡ 0
-      go zero p h = refl
-      go (suc n) p h = h
+      go true (yes e) = rw (eq-eqb (functionOf request) 0xc1 e) (order-table w phys permissions phy carried request e)
+      go true (no n) = rw (ne-eqb (functionOf request) 0xc1 n) (other-table w phys permissions phy carried request n)
 
   -- the accepted orders name groups from 2 to 127
   pub orders-valid : (room : Bool) → Valid w (acceptedOrders w phys permissions phy carried request room)
@@ -264,19 +102,4 @@ module _ (w : ℕ) (phys permissions : List ℕ) (phy carried : ℕ) (request : 
       go true (yes e) (no n) = rw (eq-eqb (functionOf request) 0xc1 e, ne-eqb ((smpReply w phys permissions phy carried request) .result) 0 n) tt
       go true (yes e) (yes z) =
           rw (eq-eqb (functionOf request) 0xc1 e, eq-eqb ((smpReply w phys permissions phy carried request) .result) 0 z)
-          (valid-orders w request (accepted w phys permissions phy carried request 0 (sym (passed e z)) refl))
-
--- ---- a request that is turned down: four response bytes, a zero set, no table changed
-module _ (w : ℕ) (phys permissions : List ℕ) (phy carried : ℕ) (request : List ℕ) where
-  pub down : ((smpReply w phys permissions phy carried request) .result ≡ 0 → ⊥)
-      → smpReply w phys permissions phy carried request ≡ turnedDown ((smpReply w phys permissions phy carried request) .result) phys permissions
-  unfolding phyZoneReply permissionReply reportReply
-  down =
-      each w phys permissions phy carried request Down
-      (either Down _ _ phys permissions (λ h. absurd (h refl)) (λ m h. refl))
-      (either Down _ _ phys permissions (λ h. absurd (h refl)) (λ m h. refl))
-      (either Down _ _ phys permissions (λ h. absurd (h refl)) (λ m h. refl))
-      (λ h. refl)
-    where
-      Down : Reply → Type 0
-      Down q = (q .result ≡ 0 → ⊥) → q ≡ turnedDown (q .result) phys permissions
+          (valid-orders w request (accepted w phys permissions phy carried request 0 (sym (passed w phys permissions phy carried request e z)) refl))

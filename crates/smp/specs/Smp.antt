@@ -1,7 +1,7 @@
--- "SMP": "After the refusals, the function byte picks one of three rules; any other byte answers 01h."
+-- "SMP": the refusals, and what a request's call gives.
 use mathlib.Core.Bool.{Bool, true, cond, _&&_}
 use mathlib.Core.List.{List, [], _∷_, _++_}
-use Prim.Native.Nat.{ℕ, _+_, _/_}
+use Prim.Native.Nat.{ℕ, _+_}
 use lib.Dec.{eqb, leb}
 use lib.ListN.{length, getD, drop}
 use Rattle.wire.specs.Groups.{isGroup}
@@ -11,10 +11,9 @@ use Rattle.permit.specs.Orders.{Order}
 use Rattle.tables.specs.Refusals.{Check, refuse, below, differ, off, firstRefusal}
 use Rattle.tables.specs.Outcome.{Answer, refusal, answer, Out, outcome}
 use Rattle.tables.specs.Arrival.{arrivalChecks}
-use Rattle.requests.specs.Requests.{smpSource, Reply, turnedDown, responseOf}
-use Rattle.phy_zone.specs.PhyZone.{phyZoneReply}
-use Rattle.zone_permission.specs.ZonePermission.{permissionReply, ordersOf}
-use Rattle.zone_report.specs.ZoneReport.{reportReply}
+use Rattle.requests.specs.Requests.{smpSource, Reply, responseOf}
+use Rattle.zone_permission.specs.ZonePermission.{ordersOf}
+use Rattle.rules.specs.Rules.{functionOf, smpReply, lengthField}
 use Rattle.smp.specs.declared.Answered.{Answered}
 use Rattle.smp.specs.declared.Answered.the-variants.{Refused, Replied}
 
@@ -22,22 +21,6 @@ use Rattle.smp.specs.declared.Answered.the-variants.{Refused, Replied}
 abbrev pub answeredAs : Answered → Answer
 answeredAs (Refused n) = refusal n
 answeredAs (Replied result written told) = answer (result ∷ written ∷ told ∷ [])
-
--- a request's function byte
-abbrev pub functionOf : List ℕ → ℕ
-functionOf request = getD request 1 0
-
--- "the function byte picks one of three rules; any other byte answers 01h"
-unfoldable pub smpReply : ℕ → List ℕ → List ℕ → ℕ → ℕ → List ℕ → Reply
-smpReply w phys permissions phy carried request =
-    cond (eqb (functionOf request) 0x93) (phyZoneReply w phys permissions phy carried request)
-    (cond (eqb (functionOf request) 0xc1) (permissionReply w phys permissions phy carried request)
-    (cond (eqb (functionOf request) 0x51) (reportReply w phys permissions phy carried request)
-    (turnedDown 0x01 phys permissions)))
-
--- "a response whose length field would pass 255"
-unfoldable pub lengthField : ℕ → List ℕ → List ℕ → ℕ → ℕ → List ℕ → ℕ
-lengthField w phys permissions phy carried request = length ((smpReply w phys permissions phy carried request) .rest) / 4
 
 -- "response buffer under 1,020 bytes, phy set under 16": whether there is room for both
 abbrev pub roomFor : List ℕ → List ℕ → Bool

@@ -1,7 +1,8 @@
 -- `smp::smp_at` meets its contract.
 -- Assumes nothing.
 use Rattle.tables.proofs.OutcomeLaws.{refuses}
-use Rattle.smp.proofs.SmpLaws.{smp-lent, told-long, smp-gives}
+use Rattle.rules.proofs.RuleLaws.{told-long}
+use Rattle.smp.proofs.SmpLaws.{smp-lent, smp-gives}
 use borrow.Author.Needs.{needs}
 use Rattle.smp.proofs.smp_at.Statement.{statement}
 use Rattle.smp.proofs.smp_at.Tie as tie

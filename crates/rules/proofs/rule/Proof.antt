@@ -1,9 +1,9 @@
--- `smp::rule` meets its contract.
+-- `rules::rule` meets its contract.
 -- Assumes nothing.
-use Rattle.smp.proofs.SmpLaws.{leaves-93, leaves-c1, leaves-51, leaves-none}
+use Rattle.rules.proofs.RuleLaws.{leaves-93, leaves-c1, leaves-51, leaves-none}
 use borrow.Author.Needs.{needs}
-use Rattle.smp.proofs.rule.Statement.{statement}
-use Rattle.smp.proofs.rule.Tie as tie
+use Rattle.rules.proofs.rule.Statement.{statement}
+use Rattle.rules.proofs.rule.Tie as tie
 
 shared-slice-read-function : tie.Need-shared-slice-read-function
 shared-slice-read-function c = search needs

@@ -1,9 +1,9 @@
--- `smp::length_field` meets its contract.
+-- `rules::length_field` meets its contract.
 -- Assumes nothing.
-use Rattle.smp.proofs.SmpLaws.{field-51, field-none}
+use Rattle.rules.proofs.RuleLaws.{field-51, field-none}
 use borrow.Author.Needs.{needs}
-use Rattle.smp.proofs.length_field.Statement.{statement}
-use Rattle.smp.proofs.length_field.Tie as tie
+use Rattle.rules.proofs.length_field.Statement.{statement}
+use Rattle.rules.proofs.length_field.Tie as tie
 
 shared-slice-read-function : tie.Need-shared-slice-read-function
 shared-slice-read-function c = search needs

@@ -13,7 +13,7 @@ use Rattle.wire.specs.declared.OutsideGroup.the-variants.{Group, NoGroup}
 use Rattle.wire.specs.Groups.{outsideGroup}
 use Rattle.permit.specs.Permission.{reaches}
 use Rattle.tables.specs.Phys.{phyGroup, participating, emptySet}
-use Rattle.requests.specs.Requests.{smpSource, right, Reply, turnedDown, replied, Leaves}
+use Rattle.requests.specs.Requests.{smpSource, sourceReaches, Reply, turnedDown, replied, Leaves}
 
 -- who is speaking, by each way out of the function that answers it
 module _ (phys : List ℕ) (phy carried : ℕ) (p : Bool) (e : p ≡ participating phys phy) where
@@ -25,15 +25,13 @@ module _ (phys : List ℕ) (phy carried : ℕ) (p : Bool) (e : p ≡ participati
   unfolding smpSource
   source-own g t eg = rw (sym e ∙ t) (ap (λ (x : ℕ). Group (record { 0 = x })) eg)
 
--- the right of who is speaking
-module _ (w : ℕ) (phys permissions : List ℕ) (phy carried : ℕ) (o : OutsideGroup) (e : o ≡ smpSource phys phy carried) where
-  pub right-none : o ≡ NoGroup → false ≡ right w phys permissions phy carried
-  unfolding right
-  right-none n = rw (sym e ∙ n)
+-- whom the group that is speaking reaches: o is what was asked for, v what it should be
+module _ (w : ℕ) (permissions : List ℕ) (o v : OutsideGroup) (b : ℕ) (e : o ≡ v) where
+  pub reaches-none : o ≡ NoGroup → false ≡ sourceReaches w permissions v b
+  reaches-none n = rw (sym e ∙ n)
 
-  pub right-group : (g : ZoneGroup) (r : Bool) → o ≡ Group g → r ≡ reaches w permissions (g .0) 2 → r ≡ right w phys permissions phy carried
-  unfolding right
-  right-group g r s er = rw (sym e ∙ s) er
+  pub reaches-group : (g : ZoneGroup) (r : Bool) → o ≡ Group g → r ≡ reaches w permissions (g .0) b → r ≡ sourceReaches w permissions v b
+  reaches-group g r s er = rw (sym e ∙ s) er
 
 -- four bytes at the head of a buffer
 pub head-set : (l : List ℕ) (a b c d : ℕ) → 4 ≤ length l → set (set (set (set l 0 a) 1 b) 2 c) 3 d ≡ (a ∷ b ∷ c ∷ d ∷ []) ++ drop 4 l

@@ -8,7 +8,7 @@ ghost use Prim.Native.Nat.{_≤_, _<_};
 ghost use lib.ListN.{length, drop};
 ghost use Rattle.permit.specs.Permission.{Table};
 ghost use Rattle.tables.specs.Phys.{phyCount};
-ghost use Rattle.requests.specs.Requests.{smpSource, right};
+ghost use Rattle.requests.specs.Requests.{smpSource, sourceReaches, right};
 
 // What a rule answers: the result, and how many bytes of the response it wrote.
 pub struct Ruled {
@@ -27,15 +27,30 @@ pub fn smp_source(phys: &[u8], phy: PhyNumber, carried: u8) -> OutsideGroup
     OutsideGroup::Group(tables::phy_group(phys, phy))
 }
 
+// Whether the group that is speaking reaches another.
+pub fn source_reaches(
+    width: usize,
+    phys: &[u8],
+    permissions: &[u8],
+    phy: PhyNumber,
+    carried: u8,
+    group: ZoneGroup,
+) -> bool
+    requires { ⌜ (phy .0 < phyCount (now phys)) × Table width (now permissions) ⌝ }
+    ensures { λ r. ⌜ r ≡ sourceReaches width (now (permissions .entry)) (smpSource (now (phys .entry)) (phy .0) carried) (group .0) ⌝ }
+{
+    let OutsideGroup::Group(source) = smp_source(phys, phy, carried) else {
+        return false;
+    };
+    permit::permitted(width, permissions, source, group)
+}
+
 // Whether the caller may change zoning.
 pub fn has_right(width: usize, phys: &[u8], permissions: &[u8], phy: PhyNumber, carried: u8) -> bool
     requires { ⌜ (phy .0 < phyCount (now phys)) × Table width (now permissions) ⌝ }
     ensures { λ r. ⌜ r ≡ right width (now (phys .entry)) (now (permissions .entry)) (phy .0) carried ⌝ }
 {
-    let OutsideGroup::Group(source) = smp_source(phys, phy, carried) else {
-        return false;
-    };
-    permit::permitted(width, permissions, source, ZoneGroup(2))
+    source_reaches(width, phys, permissions, phy, carried, ZoneGroup(2))
 }
 
 // The first four bytes of a response.

@@ -7,10 +7,8 @@ use Prim.Native.Nat.{ℕ, zero, suc, _+_, _*_, _/_, _%_, _≤_, _<_}
 use native.Mathlib.Nat.{add-zero}
 use native.Mathlib.Omega.{arith}
 use lib.Dec.{eqb}
-use lib.ListN.{length, getD, drop, List·getD-eq-default, length-set}
-use Rattle.wire.specs.Bits.{tab}
+use lib.ListN.{length, getD, drop, replicate, List·getD-eq-default, length-set}
 use Rattle.wire.specs.PhySet.{member}
-use Rattle.wire.proofs.Loops.{Filled, fill-end}
 use Rattle.wire.proofs.Sets.{member-setOf}
 use Rattle.tables.specs.Phys.{phyRecord, phyCount, phyByte, ready, readySet, emptySet, zoned}
 
@@ -34,9 +32,6 @@ unfolding readySet
 member-ready phys i h = member-setOf (ready phys) i h
 
 -- sixteen zeros
-zeros-tab : tab (λ (k : ℕ). 0) 0 16 ≡ emptySet
-unfolding tab emptySet
-zeros-tab = refl
-
-pub empty-end : (s₀ s : List ℕ) (k : ℕ) → 16 ≤ k → Filled (λ (i : ℕ). 0) 16 s₀ s k → s ≡ emptySet ++ drop 16 s₀
-empty-end s₀ s k h r = fill-end (λ (i : ℕ). 0) 16 s₀ s k h r ∙ ap (λ (l : List ℕ). l ++ drop 16 s₀) zeros-tab
+pub empty-cleared : (s₀ s : List ℕ) → s ≡ replicate 16 0 ++ drop 16 s₀ → s ≡ emptySet ++ drop 16 s₀
+unfolding emptySet
+empty-cleared s₀ s e = e

@@ -217,9 +217,5 @@ pub fn write_empty_set(set: &mut [u8])
     requires { ⌜ 16 ≤ length (now set) ⌝ }
     ensures { λ _. ⌜ now (set .exit) ≡ emptySet ++ drop 16 (now (set .entry)) ⌝ }
 {
-    let mut k: usize = 0;
-    while k < 16 {
-        set[k] = 0;
-        k += 1;
-    }
+    wire::clear(set, 16);
 }

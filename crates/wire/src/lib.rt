@@ -1,7 +1,8 @@
 // What stands on the wire and in every lent table: phy numbers, zone groups, addresses and sets of phys.
 ghost use mathlib.Core.Path.{_≡_};
+ghost use mathlib.Core.List.{_++_};
 ghost use Prim.Native.Nat.{_+_, _<_, _≤_};
-ghost use lib.ListN.{length, take, drop};
+ghost use lib.ListN.{length, take, drop, replicate};
 ghost use lib.Seq.{paste};
 ghost use Rattle.wire.specs.Groups.{groupOf, outsideGroup};
 ghost use Rattle.wire.specs.Address.{bigEndian, addressAt};
@@ -72,6 +73,18 @@ pub fn copy(target: &mut [u8], at: usize, source: &[u8], from: usize, n: usize)
     let mut k: usize = 0;
     while k < n {
         target[at + k] = source[from + k];
+        k += 1;
+    }
+}
+
+// The first n bytes become zero.
+pub fn clear(target: &mut [u8], n: usize)
+    requires { ⌜ n ≤ length (now target) ⌝ }
+    ensures { λ _. ⌜ now (target .exit) ≡ replicate n 0 ++ drop n (now (target .entry)) ⌝ }
+{
+    let mut k: usize = 0;
+    while k < n {
+        target[k] = 0;
         k += 1;
     }
 }

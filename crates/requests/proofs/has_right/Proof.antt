@@ -1,29 +1,16 @@
 -- `requests::has_right` meets its contract.
 -- Assumes nothing.
-use Rattle.requests.proofs.RequestLaws.{right-none, right-group}
+use Rattle.requests.specs.Requests.{right}
 use borrow.Author.Needs.{needs}
 use Rattle.requests.proofs.has_right.Statement.{statement}
 use Rattle.requests.proofs.has_right.Tie as tie
 
-smp-source-requires : tie.Need-smp-source-requires
-smp-source-requires c κs = search needs
-
-enum-known-source : tie.Need-enum-known-source
-enum-known-source c = search needs
-
-enum-told : tie.Need-enum-told
-enum-told c = search needs
+source-reaches-requires : tie.Need-source-reaches-requires
+source-reaches-requires c κs = search needs
 
 returns : tie.Need-returns
-returns c = search right-none
-
-permitted-requires : tie.Need-permitted-requires
-permitted-requires c κs = search needs
-
-returns-2 : tie.Need-returns-2
-returns-2 c = search right-group
+unfolding right
+returns c = search needs
 
 pub has-right-spec : {M : Type 1} → statement M
-has-right-spec =
-    tie.close
-    (tie.spec smp-source-requires enum-known-source enum-told returns permitted-requires returns-2)
+has-right-spec = tie.close (tie.spec source-reaches-requires returns)

@@ -12,8 +12,10 @@
  *   phy      256 or more is refused as any number that is not below the number of phys: 2
  *   number   256 or more is refused as any primitive number over 7: 5
  *   carried  256 or more is no byte: refused as 5 on any phy, after the other causes of 5
+ *   device_type, attached_phy, phy_changes  256 or more, and expander_changes  65,536 or more: refused as 5 after the other causes of 5,
+ *            whatever the request is
  *
- * Sizes: phys 1 to 128 records of 12 bytes; routes 0 to 1,024 records of 12 bytes; permissions 8 bytes.
+ * Sizes: phys 1 to 128 records of 16 bytes; routes 0 to 1,024 records of 12 bytes; permissions 8 bytes.
  *
  * Groups: the permission table holds groups 0 to 7, group a's row in byte a, group j in bit j. Groups 8 to 127 reach only group 1 and
  * are reached only by it. Phy records, route records, frames and carried bytes may name them; an SMP request that would write a group
@@ -77,9 +79,12 @@ uint32_t small_start_up(uint8_t *permissions, size_t permissions_len);
 /* A phy leaves the ready state. Refusals: 1, 2, 7. Writes byte 2 of the phy's record. */
 uint32_t small_leaving(uint8_t *phys, size_t phys_len, uint32_t phy);
 
-/* IDENTIFY arrives: address is the attached SAS address, 8 bytes, big-endian. Refusals: 1, 2, 7 (already ready), 4 (address_len
- * is not 8), 5 (address zero). Writes bytes 2 and 4 to 11 of the phy's record and, where another address was known, bytes 0 and 1. */
-uint32_t small_identify(uint8_t *phys, size_t phys_len, uint32_t phy, const uint8_t *address, size_t address_len);
+/* IDENTIFY arrives: address is the attached SAS address, 8 bytes, big-endian; device_type is the attached device's type, of which the low
+ * 3 bits are kept; attached_phy is the attached device's own phy. Refusals: 1, 2, 7 (already ready), 4 (address_len is not 8), 5 (address
+ * zero, then device_type or attached_phy over 255). Writes bytes 2, 4 to 11, 12 and 13 of the phy's record and, where another address was
+ * known, bytes 0 and 1. */
+uint32_t small_identify(uint8_t *phys, size_t phys_len, uint32_t phy, const uint8_t *address, size_t address_len,
+                        uint32_t device_type, uint32_t attached_phy);
 
 /* The elected supervisor. Refusals: 1. Writes nothing. */
 struct small_elected small_elect(const uint8_t *phys, size_t phys_len, const uint8_t *routes, size_t routes_len);
@@ -102,13 +107,14 @@ struct small_told small_broadcast_frame(const uint8_t *phys, size_t phys_len, co
                                         uint8_t *set, size_t set_len, uint8_t *out, size_t out_len);
 
 /* An SMP request arrives; carried is the group of the connection's OPEN, handed in with bit 7 taken off: bits 6 to 0 of its byte 20.
- * The whole byte, where its bit 7 (ACCESS ZONE MANAGEMENT) is one, is no group. Refusals: 1, 2, 3 (response_len under 1,020 or set_len
- * under 16), 7, 4, 5, 8. Writes the first length bytes of response and the first 16 of set; where result is 0 and the function is 93h
+ * The whole byte, where its bit 7 (ACCESS ZONE MANAGEMENT) is one, is no group. expander_changes and phy_changes are the change counts that
+ * the caller keeps, of the expander and of the phy that a DISCOVER (10h) asks for; no other function reads them. Refusals: 1, 2, 3
+ * (response_len under 1,020 or set_len under 16), 7, 4, 5, 8. Writes the first length bytes of response and the first 16 of set; where result is 0 and the function is 93h
  * also bytes 0 and 1 of the records named, and where it is C1h also permissions. Where result is not 0 length is 4 and the 16 bytes of
  * set are zero. A change notice (93h, C1h) goes to all ready phys, whatever their ports. */
 struct small_answered small_smp(uint8_t *phys, size_t phys_len, uint8_t *permissions, size_t permissions_len, uint32_t phy,
-                                uint32_t carried, const uint8_t *request, size_t request_len, uint8_t *response,
-                                size_t response_len, uint8_t *set, size_t set_len);
+                                uint32_t carried, uint32_t expander_changes, uint32_t phy_changes, const uint8_t *request,
+                                size_t request_len, uint8_t *response, size_t response_len, uint8_t *set, size_t set_len);
 
 #ifdef __cplusplus
 }

@@ -1,6 +1,6 @@
 #!/usr/bin/env python3
 """Writes the bench programs' stored streams: crates/bench/stdin and stdout (document 01's cases 1 to 5), and crates/bench_cases/data/*.bin,
-args and stdout. Each event stands here with the line that document 01 gives for it, worked out by hand; a stream starts on a fresh rack.
+args and stdout. Each event stands here with the line that documents 01 and 02 give for it, worked out by hand; a stream starts on a fresh rack.
 make_streams.py --check: writes nothing, and fails where a stored file differs."""
 import pathlib, sys
 
@@ -66,6 +66,11 @@ def row(*groups):
 
 def report(start, rows):
     return bytes([0x40, 0x51, 0, 1, 0, 0, start, rows]).hex()
+
+
+def discover(phy, byte8=0, byte3=2):
+    """10h DISCOVER of a phy; bit 0 of byte 8 is IGNORE ZONE GROUP."""
+    return bytes([0x40, 0x10, 0, byte3, 0, 0, 0, 0, byte8, phy, 0, 0]).hex()
 
 
 ON, UNZONED = 0x80, address(0x70)
@@ -223,7 +228,7 @@ STREAMS = {
         (smp(0, report(0, 63)), 'S 00 1020 0'),
         (smp(0, report(0, 255)), 'S 00 1020 0'),
         (smp(0, report(100, 64)), 'S 00 460 0'),
-        (smp(0, '40 10 00 00'), 'S 01 4 0'),
+        (smp(0, '40 11 00 00'), 'S 01 4 0'),
     ],
     'links': [
         (leaving(4), 'L'),
@@ -297,8 +302,8 @@ STREAMS = {
         (smp(7, single(8, ON + 9), carried=136), 'X 5'),
         (smp(7, report(0, 1), carried=127), 'S 01 4 0'),
         (smp(7, report(0, 1), carried=255), 'X 5'),
-        (smp(7, '40 10 00 00', carried=127), 'S 01 4 0'),
-        (smp(7, '40 10 00 00', carried=136), 'X 5'),  # before the function byte
+        (smp(7, '40 11 00 00', carried=127), 'S 01 4 0'),
+        (smp(7, '40 11 00 00', carried=136), 'X 5'),  # before the function byte
         (smp(7, '41 93 00 01 00 00 00 00', carried=136), 'X 5'),
         (smp(7, '40 93 00', carried=136), 'X 4'),
         (smp(7, '', carried=255), 'X 4'),
@@ -312,7 +317,7 @@ STREAMS = {
         (smp(0, phy_zone(0), carried=128), 'S 00 4 8'),
         (smp(0, phy_zone(0), carried=136), 'S 00 4 8'),
         (smp(0, phy_zone(0), carried=255), 'S 00 4 8'),
-        (smp(0, '40 10 00 00', carried=136), 'S 01 4 0'),
+        (smp(0, '40 11 00 00', carried=136), 'S 01 4 0'),
         (smp(0, report(127, 5), carried=255), 'S 00 28 0'),
         (smp(2, phy_zone(0), carried=136), 'S 02 4 0'),
         (smp(0, single(8, ON + 9), carried=136), 'S 00 4 8'),
@@ -333,6 +338,65 @@ STREAMS = {
         (frame(7, 0x02, 136), 'X 5'),
         (open_to(7, address(4), byte20=0x88), 'O FWD 4'),  # byte 20 stays: group 8
         (open_to(7, address(2), byte20=0xFF), 'O ZV'),
+    ],
+    # DISCOVER: phys 0 and 7 are of group 1, which reaches all and is reached by all; 2 of group 8; 4 of group 9; 6 of group 0
+    'discover': [
+        (smp(2, discover(4)), 'S 16 4 0'),
+        (smp(2, discover(4, byte8=1)), 'S 00 108 0'),
+        (smp(2, discover(8)), 'S 10 4 0'),
+        (smp(2, discover(8, byte8=1)), 'S 10 4 0'),
+        (smp(2, discover(255)), 'S 10 4 0'),
+        (smp(2, discover(7)), 'S 00 108 0'),
+        (smp(2, discover(2)), 'S 16 4 0'),  # no group but 1 reaches itself at start-up, so not even the asking phy is shown
+        (smp(0, discover(4)), 'S 00 108 0'),
+        (smp(6, discover(4)), 'S 16 4 0'),
+        (smp(0, single(8, ON + 9)), 'S 00 4 8'),
+        (smp(2, discover(4)), 'S 00 108 0'),
+        (smp(4, discover(2)), 'S 00 108 0'),  # both ways
+        (smp(2, discover(8)), 'S 10 4 0'),
+        (smp(2, discover(6)), 'S 16 4 0'),
+        (primitive(2, 0), 'B 4'),  # nothing but the order changed a table
+    ],
+    'discover_request': [
+        (smp(0, discover(4, byte3=0)), 'S 00 108 0'),  # older tools
+        (smp(2, discover(4, byte3=0)), 'S 16 4 0'),
+        (smp(0, discover(4, byte3=1)), 'S 03 4 0'),
+        (smp(0, discover(4, byte3=3)), 'S 03 4 0'),
+        (smp(0, '40 10 00 00'), 'S 03 4 0'),
+        (smp(0, '40 10 00 02 00 00 00 00 00 04 00'), 'S 03 4 0'),
+        (smp(0, '40 10 00 02 00 00 00 00 00 04 00 00 00'), 'S 03 4 0'),
+        (smp(0, '40 10 00 03 00 00 00 00 00 04 00 00 00 00 00 00'), 'S 03 4 0'),
+        (smp(2, discover(8, byte3=1)), 'S 03 4 0'),  # before the phy and the groups
+        (smp(2, discover(4, byte8=0xFE)), 'S 16 4 0'),  # of byte 8 only bit 0 counts
+        (smp(2, discover(4, byte8=0xFF)), 'S 00 108 0'),
+        (smp(0, '40 10 FF 02 FF FF FF FF 00 04 FF FF'), 'S 00 108 0'),  # no other byte counts
+        (smp(0, '41 10 00 02 00 00 00 00 00 04 00 00'), 'X 5'),
+    ],
+    'discover_links': [
+        (leaving(4), 'L'),
+        (smp(0, discover(4)), 'S 00 108 0'),  # what is attached is zero, but the phy is shown
+        (smp(2, discover(4)), 'S 16 4 0'),  # still of group 9
+        (smp(4, discover(0)), 'X 7'),
+        (identify(4, address(4)), 'L'),
+        (smp(0, discover(4)), 'S 00 108 0'),
+        (smp(2, discover(4)), 'S 16 4 0'),
+        (smp(0, single(8, ON + 9)), 'S 00 4 8'),
+        (smp(2, discover(4)), 'S 00 108 0'),  # the same address: still of group 9
+        (leaving(4), 'L'),
+        (smp(2, discover(4)), 'S 00 108 0'),
+        (identify(4, UNZONED), 'L'),  # another address: group 0
+        (smp(2, discover(4)), 'S 16 4 0'),
+        (smp(2, discover(5)), 'S 00 108 0'),
+    ],
+    'discover_carried': [
+        (smp(7, discover(4), carried=1), 'S 00 108 0'),
+        (smp(7, discover(4), carried=8), 'S 16 4 0'),  # phy 7's own group would reach it
+        (smp(7, discover(4), carried=127), 'S 16 4 0'),
+        (smp(7, discover(4, byte8=1), carried=127), 'S 00 108 0'),
+        (smp(7, discover(4), carried=128), 'X 5'),
+        (smp(7, discover(4, byte8=1), carried=128), 'X 5'),  # no group may not ask at all
+        (smp(2, discover(4), carried=1), 'S 16 4 0'),  # what is carried on a phy that is not participating counts for nothing
+        (smp(0, discover(4), carried=128), 'S 00 108 0'),
     ],
     'cut_header_1': [(bytes([LEAVING]), 'T')],
     'cut_header_4': [(leaving(2), 'L'), (bytes([9, 0, 0, 0]), 'T')],

@@ -4,6 +4,7 @@ ghost use mathlib.Core.Path.{_≡_};
 ghost use Prim.Native.Nat.{_+_, _<_, _≤_};
 ghost use lib.ListN.{length};
 use libc::STDOUT_FILENO;
+use tables::PHY_RECORD;
 
 // The unread bytes of the window are those from `at` up to `have`; `number` is the next event's.
 struct Window {
@@ -91,7 +92,7 @@ fn events(
 
 // Runs the bench rack, from its start, on the events of fd.
 pub fn run(fd: i32) {
-    let mut phys = [0u8; 96];
+    let mut phys = [0u8; 8 * PHY_RECORD];
     let mut permissions = [0u8; 2048];
     let mut window = [0u8; 131072];
     let mut text = [0u8; 65536];

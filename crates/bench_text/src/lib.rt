@@ -1,7 +1,8 @@
 // The bench's text below the program: a run over the whole events of a window, and the end of the input.
 ghost use mathlib.Core.Path.{_≡_};
-ghost use Prim.Native.Nat.{_+_, _<_, _≤_};
+ghost use Prim.Native.Nat.{_+_, _*_, _<_, _≤_};
 ghost use lib.ListN.{length, take, drop};
+ghost use Rattle.tables.specs.Phys.{phyRecord};
 ghost use Rattle.events.specs.Events.{eventGives};
 ghost use Rattle.lines.specs.Written.{written, Wrote};
 ghost use Rattle.bench_text.specs.Stream.{ending};
@@ -16,7 +17,7 @@ pub struct Progress {
 
 // The rack as it stands before any event, and the first line.
 pub fn begin(phys: &mut [u8], permissions: &mut [u8], text: &mut [u8]) -> Progress
-    requires { ⌜ (length (now phys) ≡ 96) × (length (now permissions) ≡ 2048) × (64 ≤ length (now text)) ⌝ }
+    requires { ⌜ (length (now phys) ≡ 8 * phyRecord) × (length (now permissions) ≡ 2048) × (64 ≤ length (now text)) ⌝ }
     ensures { λ r. ⌜ Told begun (now (text .entry)) (r .taken) (r .number) (r .used) (now (text .exit)) (now (phys .exit)) (now (permissions .exit)) × (r .used ≤ length (now (text .entry))) ⌝ }
 {
     rack::start(phys, permissions);

@@ -1,28 +1,31 @@
 -- Each call of C gives what its equation says, the numbers taken as they came.
 -- Assumes nothing.
-use mathlib.Core.Path.{_≡_, sym, ap, _∙_}
-use mathlib.Core.Bool.{Bool, true, false, _&&_}
+use mathlib.Core.Path.{_≡_, sym, ap, ap₂, _∙_}
+use mathlib.Core.Bool.{Bool, true, false, not, _&&_}
 use mathlib.Core.List.{List, [], _∷_, _++_}
 use Prim.Native.Nat.{ℕ, min, _≤_, _<_}
 use native.Mathlib.Omega.{arith}
-use borrow.Author.Tests.{not-false}
+use mir.Syntax.{w16}
+use mir.Val.{Fits}
+use borrow.Author.Tests.{not-true, not-false, leb-true}
 use lib.Dec.{leb}
 use lib.ListN.{length}
 use Rattle.permit.specs.Permission.{permissionsSized}
 use Rattle.tables.specs.Refusals.{Check, refuse, below, atMost, off, firstRefusal, Clear}
-use Rattle.tables.specs.Outcome.{Answer, refusal, out, outcome}
+use Rattle.tables.specs.Outcome.{Answer, refusal, Out, out, outcome}
 use Rattle.tables.specs.Phys.{phyCount, physSized, ready}
 use Rattle.tables.specs.Routes.{routesSized}
 use Rattle.tables.specs.Arrival.{unlike, arrivalChecks}
-use Rattle.tables.proofs.ArrivalLaws.{phys-records, numbered}
+use Rattle.tables.proofs.ArrivalLaws.{both, phys-records, numbered}
 use Rattle.links.specs.Links.{leavingOut, identifyOut, identifyFront}
 use Rattle.opens.specs.Open.{openOut}
 use Rattle.broadcasts.specs.Broadcasts as broadcasts
 use Rattle.broadcasts.specs.Broadcasts.{primitiveOut, broadcastOut}
+use Rattle.discover.specs.declared.Changes.{Changes}
 use Rattle.smp.specs.Smp.{roomFor, smpChecks, smpOut}
-use Rattle.boundary.specs.C.{given, fields, inC, orElse, identifyOutC, smpOutC}
+use Rattle.boundary.specs.C.{given, fields, inC, orElse, bytesFit, identifyOutC, allFit, counted, smpOutC}
 use Rattle.boundary.proofs.Crossing.{crosses, stopped, clamped}
-use Rattle.boundary.proofs.Boundary.{other-length, no-byte, as-document-01}
+use Rattle.boundary.proofs.Boundary.{other-length, wide-device, no-byte, as-document-01}
 
 -- ---- a phy number from 255 on is refused as every other such number: by a table's size, or else as 2
 module _ (phys : List ℕ) (sizes room awaited : Bool) where
@@ -96,52 +99,99 @@ module _ (w : ℕ) (phys permissions set frame : List ℕ) where
     broadcast-c phy p fs a bs ep q e =
         crosses 1 fs a bs _ e (q ∙ clamped (λ (x : ℕ). broadcastOut w phys permissions x arrived set frame) broadcast-far p phy ep)
 
+-- ---- a number that fits is itself when clamped
+fits-device : (device attached : ℕ) → bytesFit device attached ≡ true → (min device 255 ≡ device) × (min attached 255 ≡ attached)
+unfolding bytesFit
+fits-device device attached f =
+    let b = both (leb device 255) (leb attached 255) f in
+    let d = leb-true device 255 (b .0) in
+    let a = leb-true attached 255 (b .1) in
+    (omega arith, omega arith)
+
+fits-carried : (carried expander count : ℕ) → allFit carried (counted expander count) ≡ true → (min carried 255 ≡ carried) × (expander ≤ 65535) × (min count 255 ≡ count)
+unfolding allFit
+fits-carried carried expander count f =
+    let b = both (leb carried 255) (leb expander 65535 && leb count 255) f in
+    let e = both (leb expander 65535) (leb count 255) (b .1) in
+    let c = leb-true carried 255 (b .0) in
+    let x = leb-true count 255 (e .1) in
+    (omega arith, leb-true expander 65535 (e .0), omega arith)
+
+-- the expander's count is not clamped but cast
+pub count-fits : (carried expander count : ℕ) (b : Bool) → b ≡ allFit carried (counted expander count) → not b ≡ false → Fits w16 expander
+count-fits carried expander count b eb f = let m = fits-carried carried expander count (sym eb ∙ not-false b f) in omega arith
+
+pub refused-own : (phys : List ℕ) (p own r n : ℕ) (fs : List ℕ) → r ≡ firstRefusal (identifyFront phys p) → n ≡ orElse r own → fs ≡ fields 0 (refusal n)
+    → fs ≡ fields 0 (refusal (orElse (firstRefusal (identifyFront phys p)) own))
+refused-own phys p own r n fs er en e = e ∙ ap (λ (m : ℕ). fields 0 (refusal m)) (en ∙ ap (λ (m : ℕ). orElse m own) er)
+
 -- ---- IDENTIFY
-module _ (phys address : List ℕ) where
-  identify-far : (x y : ℕ) → 255 ≤ x → 255 ≤ y → identifyOutC phys x address ≡ identifyOutC phys y address
+module _ (phys address : List ℕ) (device attached : ℕ) where
+  identify-far : (x y : ℕ) → 255 ≤ x → 255 ≤ y → identifyOutC phys x address device attached ≡ identifyOutC phys y address device attached
   identify-far x y hx hy = arrival-far phys true true false x hx _ _ _ _ ∙ sym (arrival-far phys true true false y hy _ _ _ _)
 
-  -- another length than 8
-  pub identify-short : (phy p r n : ℕ) (fs : List ℕ) → p ≡ min phy 255 → (length address ≡ 8 → ⊥) → r ≡ firstRefusal (identifyFront phys p) → n ≡ orElse r 4
-      → fs ≡ fields 0 (refusal n) → given fs (phys ∷ []) ≡ inC 0 (identifyOutC phys phy address)
-  identify-short phy p r n fs ep l er en e =
-      crosses 0 fs (refusal n) (phys ∷ []) _ e
-      (ap (λ (m : ℕ). out (refusal m) (phys ∷ [])) (en ∙ ap (λ (m : ℕ). orElse m 4) er)
-      ∙ sym (other-length phys p address l)
-      ∙ clamped (λ (x : ℕ). identifyOutC phys x address) identify-far p phy ep)
+  module _ (phy p : ℕ) (ep : p ≡ min phy 255) where
+    -- what the boundary refuses itself
+    own : (n : ℕ) (fs : List ℕ) → fs ≡ fields 0 (refusal (orElse (firstRefusal (identifyFront phys p)) n))
+        → identifyOutC phys p address device attached ≡ out (refusal (orElse (firstRefusal (identifyFront phys p)) n)) (phys ∷ [])
+        → given fs (phys ∷ []) ≡ inC 0 (identifyOutC phys phy address device attached)
+    own n fs e q =
+        crosses 0 fs _ (phys ∷ []) _ e (sym q ∙ clamped (λ (x : ℕ). identifyOutC phys x address device attached) identify-far p phy ep)
 
-  -- eight bytes
-  pub identify-whole : (phy p : ℕ) (whole fs : List ℕ) (a : Answer) (bs : List (List ℕ)) → p ≡ min phy 255 → length address ≡ 8 → whole ≡ address
-      → out a bs ≡ identifyOut phys p whole → fs ≡ fields 0 a → given fs bs ≡ inC 0 (identifyOutC phys phy address)
-  identify-whole phy p whole fs a bs ep l ew q e =
-      crosses 0 fs a bs _ e
-      (q
-      ∙ ap (λ (s : List ℕ). identifyOut phys p s) ew
-      ∙ as-document-01 .0 phys p address l
-      ∙ clamped (λ (x : ℕ). identifyOutC phys x address) identify-far p phy ep)
+    pub identify-short : (fs : List ℕ) → (length address ≡ 8 → ⊥) → fs ≡ fields 0 (refusal (orElse (firstRefusal (identifyFront phys p)) 4))
+        → given fs (phys ∷ []) ≡ inC 0 (identifyOutC phys phy address device attached)
+    identify-short fs l e = own 4 fs e (other-length phys p address device attached l)
+
+    pub identify-wide : (b : Bool) (fs : List ℕ) → length address ≡ 8 → b ≡ bytesFit device attached → not b ≡ true
+        → fs ≡ fields 0 (refusal (orElse (firstRefusal (identifyFront phys p)) 5)) → given fs (phys ∷ []) ≡ inC 0 (identifyOutC phys phy address device attached)
+    identify-wide b fs l eb f e = own 5 fs e (wide-device phys p address device attached l (sym eb ∙ not-true b f))
+
+    -- eight bytes, and numbers that fit
+    pub identify-whole : (b : Bool) (whole fs : List ℕ) (d a : ℕ) (ans : Answer) (bs : List (List ℕ)) → length address ≡ 8 → b ≡ bytesFit device attached → not b ≡ false
+        → whole ≡ address → d ≡ min device 255 → a ≡ min attached 255 → out ans bs ≡ identifyOut phys p whole d a → fs ≡ fields 0 ans
+        → given fs bs ≡ inC 0 (identifyOutC phys phy address device attached)
+    identify-whole b whole fs d a ans bs l eb f ew ed ea q e =
+        let fit = sym eb ∙ not-false b f in
+        let m = fits-device device attached fit in
+        crosses 0 fs ans bs _ e
+        (q
+        ∙ ap (λ (s : List ℕ). identifyOut phys p s d a) ew
+        ∙ ap₂ (λ (x y : ℕ). identifyOut phys p address x y) (ed ∙ m .0) (ea ∙ m .1)
+        ∙ as-document-01 .0 phys p address device attached l fit
+        ∙ clamped (λ (x : ℕ). identifyOutC phys x address device attached) identify-far p phy ep)
 
 -- ---- SMP
-module _ (w : ℕ) (phys permissions request response set : List ℕ) where
-  smp-far : (carried x y : ℕ) → 255 ≤ x → 255 ≤ y → smpOutC w phys permissions x carried request response set ≡ smpOutC w phys permissions y carried request response set
-  smp-far carried x y hx hy =
+module _ (w : ℕ) (phys permissions : List ℕ) (carried expander count : ℕ) (request response set : List ℕ) where
+  abbrev given-out : ℕ → Out
+  given-out x = smpOutC w phys permissions x carried (counted expander count) request response set
+
+  smp-far : (x y : ℕ) → 255 ≤ x → 255 ≤ y
+      → smpOutC w phys permissions x carried (counted expander count) request response set ≡ smpOutC w phys permissions y carried (counted expander count) request response set
+  smp-far x y hx hy =
       let far = arrival-far phys (permissionsSized w permissions) (roomFor response set) true in
       far x hx _ _ _ _ ∙ sym (far y hy _ _ _ _)
 
-  -- no byte was carried
-  pub smp-wide : (phy carried p r n : ℕ) (fs : List ℕ) → p ≡ min phy 255 → 255 < carried
-      → r ≡ firstRefusal (smpChecks w phys permissions p 255 request (roomFor response set)) → n ≡ orElse r 5 → fs ≡ fields 3 (refusal n)
-      → given fs (phys ∷ permissions ∷ response ∷ set ∷ []) ≡ inC 3 (smpOutC w phys permissions phy carried request response set)
-  smp-wide phy carried p r n fs ep h er en e =
-      crosses 3 fs (refusal n) (phys ∷ permissions ∷ response ∷ set ∷ []) _ e
-      (ap (λ (m : ℕ). out (refusal m) (phys ∷ permissions ∷ response ∷ set ∷ [])) (en ∙ ap (λ (m : ℕ). orElse m 5) er)
-      ∙ sym (no-byte w phys permissions p carried 255 request response set h)
-      ∙ clamped (λ (x : ℕ). smpOutC w phys permissions x carried request response set) (smp-far carried) p phy ep)
+  module _ (phy p : ℕ) (ep : p ≡ min phy 255) (b : Bool) (eb : b ≡ allFit carried (counted expander count)) where
+    -- a number does not fit
+    pub smp-wide : (r n : ℕ) (fs : List ℕ) → not b ≡ true
+        → ((k : Changes) → r ≡ firstRefusal (smpChecks w phys permissions p 255 k request (roomFor response set))) → n ≡ orElse r 5 → fs ≡ fields 3 (refusal n)
+        → given fs (phys ∷ permissions ∷ response ∷ set ∷ []) ≡ inC 3 (smpOutC w phys permissions phy carried (counted expander count) request response set)
+    smp-wide r n fs f er en e =
+        let none : Changes = counted 0 0 in
+        crosses 3 fs (refusal n) (phys ∷ permissions ∷ response ∷ set ∷ []) _ e
+        (ap (λ (m : ℕ). out (refusal m) (phys ∷ permissions ∷ response ∷ set ∷ [])) (en ∙ ap (λ (m : ℕ). orElse m 5) (er none))
+        ∙ sym (no-byte w phys permissions p carried 255 (counted expander count) none request response set (sym eb ∙ not-true b f))
+        ∙ clamped given-out smp-far p phy ep)
 
-  pub smp-byte : (phy carried p : ℕ) (fs : List ℕ) (a : Answer) (bs : List (List ℕ)) → p ≡ min phy 255 → carried ≤ 255
-      → out a bs ≡ smpOut w phys permissions p carried request response set → fs ≡ fields 3 a
-      → given fs bs ≡ inC 3 (smpOutC w phys permissions phy carried request response set)
-  smp-byte phy carried p fs a bs ep h q e =
-      crosses 3 fs a bs _ e
-      (q
-      ∙ as-document-01 .1 w phys permissions p carried request response set h
-      ∙ clamped (λ (x : ℕ). smpOutC w phys permissions x carried request response set) (smp-far carried) p phy ep)
+    -- all fit
+    pub smp-fits : (x y : ℕ) (fs : List ℕ) (a : Answer) (bs : List (List ℕ)) → not b ≡ false → x ≡ min carried 255 → y ≡ min count 255
+        → out a bs ≡ smpOut w phys permissions p x (counted expander y) request response set → fs ≡ fields 3 a
+        → given fs bs ≡ inC 3 (smpOutC w phys permissions phy carried (counted expander count) request response set)
+    smp-fits x y fs a bs f ex ey q e =
+        let fit = sym eb ∙ not-false b f in
+        let m = fits-carried carried expander count fit in
+        crosses 3 fs a bs _ e
+        (q
+        ∙ ap₂ (λ (c k : ℕ). smpOut w phys permissions p c (counted expander k) request response set) (ex ∙ m .0) (ey ∙ m .2)
+        ∙ as-document-01 .1 w phys permissions p carried (counted expander count) request response set fit
+        ∙ clamped given-out smp-far p phy ep)

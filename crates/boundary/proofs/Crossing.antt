@@ -32,22 +32,27 @@ unfolding orElse
 else-some zero m e = omega arith
 else-some (suc n) m e = omega arith
 
--- ---- rows `pre`, then a row that holds wherever those let pass: what comes after it plays no part
-module _ (pre : List Check) (n : ℕ) (t : Test) (xs : List Check) (k : Numbered pre) (h : Clear pre → Holds t) where
-  pub stops : firstRefusal (pre ++ refuse (suc n) t ∷ xs) ≡ orElse (firstRefusal pre) (suc n)
+-- ---- rows `pre`, then rows that give one number wherever those let pass
+module _ (pre : List Check) (n : ℕ) (xs : List Check) (k : Numbered pre) (h : Clear pre → suc n ≡ firstRefusal xs) where
+  stops : firstRefusal (pre ++ xs) ≡ orElse (firstRefusal pre) (suc n)
   stops = go (ℕ-discrete (firstRefusal pre) 0)
     where
-      go : Dec (firstRefusal pre ≡ 0) → firstRefusal (pre ++ refuse (suc n) t ∷ xs) ≡ orElse (firstRefusal pre) (suc n)
+      go : Dec (firstRefusal pre ≡ 0) → firstRefusal (pre ++ xs) ≡ orElse (firstRefusal pre) (suc n)
       go (yes z) =
-          sym (back pre (refuse (suc n) t ∷ xs) (firstRefusal pre) (suc n) k refl z (first (here (h (clear pre (firstRefusal pre) refl z k)))))
+          sym (back pre xs (firstRefusal pre) (suc n) k refl z (h (clear pre (firstRefusal pre) refl z k)))
           ∙ else-own (firstRefusal pre) (suc n) z
-      go (no d) = sym (front pre (refuse (suc n) t ∷ xs) (firstRefusal pre) refl d) ∙ else-same (firstRefusal pre) (suc n) d
+      go (no d) = sym (front pre xs (firstRefusal pre) refl d) ∙ else-same (firstRefusal pre) (suc n) d
 
-  pub stopped : (values : List ℕ) (old new : List (List ℕ))
-      → outcome (firstRefusal (pre ++ refuse (suc n) t ∷ xs)) values old new ≡ out (refusal (orElse (firstRefusal pre) (suc n))) old
-  stopped values old new =
-      refused-keeps (firstRefusal (pre ++ refuse (suc n) t ∷ xs)) values old new (λ z. else-some (firstRefusal pre) n (sym stops ∙ z))
+  pub stopped-by : (values : List ℕ) (old new : List (List ℕ))
+      → outcome (firstRefusal (pre ++ xs)) values old new ≡ out (refusal (orElse (firstRefusal pre) (suc n))) old
+  stopped-by values old new =
+      refused-keeps (firstRefusal (pre ++ xs)) values old new (λ z. else-some (firstRefusal pre) n (sym stops ∙ z))
       ∙ ap (λ (m : ℕ). out (refusal m) old) stops
+
+-- so with a row that holds there: what comes after it plays no part
+pub stopped : (pre : List Check) (n : ℕ) (t : Test) (xs : List Check) → Numbered pre → (Clear pre → Holds t) → (values : List ℕ) (old new : List (List ℕ))
+    → outcome (firstRefusal (pre ++ refuse (suc n) t ∷ xs)) values old new ≡ out (refusal (orElse (firstRefusal pre) (suc n))) old
+stopped pre n t xs k h = stopped-by pre n (refuse (suc n) t ∷ xs) k (λ c. first (here (h c)))
 
 -- ---- a row of the number that follows anyway decides nothing
 pub as-follows : (pre : List Check) (n : ℕ) (t u : Test)

@@ -1,14 +1,16 @@
 -- What C gets. Document 01's outcomes in the fields of include/shelf.h and include/small.h; the quotes are of those headers.
-use mathlib.Core.Bool.{Bool, true}
+use mathlib.Core.Bool.{Bool, true, _&&_}
 use mathlib.Core.List.{List, [], _∷_, _++_}
 use Prim.Native.Nat.{ℕ, zero, suc}
+use lib.Dec.{leb}
 use lib.ListN.{length}
 use Rattle.wire.specs.Address.{addressAt}
 use Rattle.permit.specs.Permission.{permissionsSized}
-use Rattle.tables.specs.Refusals.{Check, refuse, below, same, differ, firstRefusal}
+use Rattle.tables.specs.Refusals.{Check, refuse, below, same, differ, off, firstRefusal}
 use Rattle.tables.specs.Outcome.{Answer, refusal, answer, Out, out, outcome}
 use Rattle.tables.specs.Arrival.{arrivalChecks}
 use Rattle.links.specs.Links.{identifyFront, identified}
+use Rattle.discover.specs.declared.Changes.{Changes}
 use Rattle.rules.specs.Rules.{functionOf, smpReply, lengthField}
 use Rattle.smp.specs.Smp.{roomFor, requestChecks, valuesOf, buffersOf}
 use Rattle.boundary.specs.declared.ElectedC.{ElectedC}
@@ -53,32 +55,45 @@ unfoldable pub orElse : ℕ → ℕ → ℕ
 orElse zero own = own
 orElse (suc n) own = suc n
 
--- IDENTIFY "Refusals: 1, 2, 7 (already ready), 4 (address_len is not 8), 5 (address zero)": the first three are document 01's, which has no
--- other length
-abbrev pub identifyChecksC : List ℕ → ℕ → List ℕ → List Check
-identifyChecksC phys phy address =
+-- "device_type, attached_phy .. 256 or more": whether the two fit
+unfoldable pub bytesFit : ℕ → ℕ → Bool
+bytesFit device attached = leb device 255 && leb attached 255
+
+-- IDENTIFY "Refusals: 1, 2, 7 (already ready), 4 (address_len is not 8), 5 (address zero, then device_type or attached_phy over 255)": the
+-- first three are document 01's, which has no other length and no wider number
+abbrev pub identifyChecksC : List ℕ → ℕ → List ℕ → ℕ → ℕ → List Check
+identifyChecksC phys phy address device attached =
     identifyFront phys phy
     ++ refuse 4 (differ (length address) 8)
     ∷ refuse 5 (same (addressAt address 0) 0)
+    ∷ refuse 5 (off (bytesFit device attached))
     ∷ []
 
-abbrev pub identifyOutC : List ℕ → ℕ → List ℕ → Out
-identifyOutC phys phy address =
-    outcome (firstRefusal (identifyChecksC phys phy address)) [] (phys ∷ []) (identified phys phy address ∷ [])
+abbrev pub identifyOutC : List ℕ → ℕ → List ℕ → ℕ → ℕ → Out
+identifyOutC phys phy address device attached =
+    outcome (firstRefusal (identifyChecksC phys phy address device attached)) [] (phys ∷ []) (identified phys phy address device attached ∷ [])
 
--- "carried 256 or more is no byte: refused as 5 on any phy, after the other causes of 5"
-abbrev pub smpChecksC : ℕ → List ℕ → List ℕ → ℕ → ℕ → List ℕ → Bool → List Check
-smpChecksC w phys permissions phy carried request room =
+-- "carried 256 or more", "phy_changes 256 or more, and expander_changes 65,536 or more": whether the three fit
+unfoldable pub allFit : ℕ → Changes → Bool
+allFit carried changes = leb carried 255 && (leb (changes .expander) 65535 && leb (changes .phy) 255)
+
+-- "refused as 5 on any phy, after the other causes of 5", "whatever the request is"
+abbrev pub smpChecksC : ℕ → List ℕ → List ℕ → ℕ → ℕ → Changes → List ℕ → Bool → List Check
+smpChecksC w phys permissions phy carried changes request room =
     arrivalChecks phys phy (permissionsSized w permissions) room true
     ++ (requestChecks phys phy carried request
-    ++ refuse 5 (below 255 carried)
-    ∷ refuse 8 (below 255 (lengthField w phys permissions phy carried request))
+    ++ refuse 5 (off (allFit carried changes))
+    ∷ refuse 8 (below 255 (lengthField w phys permissions phy carried changes request))
     ∷ [])
 
+-- the counts as C hands them in
+abbrev pub counted : ℕ → ℕ → Changes
+counted expander count = record { expander = expander; phy = count }
+
 -- the buffers: phy table, permission table, response, phy set
-abbrev pub smpOutC : ℕ → List ℕ → List ℕ → ℕ → ℕ → List ℕ → List ℕ → List ℕ → Out
-smpOutC w phys permissions phy carried request response set =
-    outcome (firstRefusal (smpChecksC w phys permissions phy carried request (roomFor response set)))
-    (valuesOf (smpReply w phys permissions phy carried request))
+abbrev pub smpOutC : ℕ → List ℕ → List ℕ → ℕ → ℕ → Changes → List ℕ → List ℕ → List ℕ → Out
+smpOutC w phys permissions phy carried changes request response set =
+    outcome (firstRefusal (smpChecksC w phys permissions phy carried changes request (roomFor response set)))
+    (valuesOf (smpReply w phys permissions phy carried changes request))
     (phys ∷ permissions ∷ response ∷ set ∷ [])
-    (buffersOf (functionOf request) (smpReply w phys permissions phy carried request) response set)
+    (buffersOf (functionOf request) (smpReply w phys permissions phy carried changes request) response set)

@@ -1,6 +1,7 @@
 // What both C boundaries share: each call over the row width, with its numbers and answers as the headers have them. Every number that C
 // could narrow silently comes as 32 bits and is clamped, never truncated.
 use broadcasts::Told;
+use discover::Changes;
 use election::Elected;
 use links::Linked;
 use opens::Opened;
@@ -13,12 +14,14 @@ ghost use mathlib.Core.Path.{_≡_};
 ghost use mathlib.Core.List.{[], _∷_};
 ghost use Prim.Native.Nat.{min};
 ghost use Rattle.permit.specs.Permission.{Width};
-ghost use Rattle.links.specs.Links.{linkedAs, startUpOut, leavingOut};
+ghost use Rattle.tables.specs.Refusals.{firstRefusal};
+ghost use Rattle.tables.specs.Outcome.{refusal};
+ghost use Rattle.links.specs.Links.{linkedAs, startUpOut, leavingOut, identifyFront};
 ghost use Rattle.election.specs.Election.{electedAs, electOut};
 ghost use Rattle.opens.specs.Open.{openedAs, openOut};
 ghost use Rattle.broadcasts.specs.Broadcasts.{toldAs, primitiveOut, broadcastOut};
 ghost use Rattle.smp.specs.Smp.{answeredAs};
-ghost use Rattle.boundary.specs.C.{given, fields, inC, orElse, electedFields, openedFields, toldFields, answeredFields, identifyOutC, smpOutC};
+ghost use Rattle.boundary.specs.C.{given, fields, inC, orElse, electedFields, openedFields, toldFields, answeredFields, bytesFit, identifyOutC, allFit, counted, smpOutC};
 
 // The answers' fields stand in the headers' order: C reads them by place.
 #[repr(C)]
@@ -181,17 +184,33 @@ pub fn leaving_c(phys: &mut [u8], phy: u32) -> u32
     linked_c(links::leaving(phys, phy_of(phy)))
 }
 
-// The library takes eight bytes. Another length is refused as 4, but only after what the header puts before it.
-pub fn identify_c(phys: &mut [u8], phy: u32, address: &[u8]) -> u32
-    ensures { λ r. ⌜ given (r ∷ []) (now (phys .exit) ∷ []) ≡ inC 0 (identifyOutC (now (phys .entry)) phy (now (address .entry))) ⌝ }
+// What the boundary itself refuses of IDENTIFY, as `own`: but only after what the header puts before it.
+fn identify_refused(phys: &[u8], phy: PhyNumber, own: u8) -> u32
+    ensures { λ r. ⌜ r ∷ [] ≡ fields 0 (refusal (orElse (firstRefusal (identifyFront (now (phys .entry)) (phy .0))) own)) ⌝ }
+{
+    let no = tables::arrival_refusal(phys, phy, NO_OTHER_TABLES, NO_BUFFERS, NOT_READY);
+    linked_c(Linked::Refused(or_else(no, own)))
+}
+
+fn bytes_fit(device: u32, attached: u32) -> bool
+    ensures { λ r. ⌜ r ≡ bytesFit device attached ⌝ }
+{
+    (device <= 255) & (attached <= 255)
+}
+
+// The library takes eight bytes of an address, and bytes for the other two.
+pub fn identify_c(phys: &mut [u8], phy: u32, address: &[u8], device: u32, attached: u32) -> u32
+    ensures { λ r. ⌜ given (r ∷ []) (now (phys .exit) ∷ []) ≡ inC 0 (identifyOutC (now (phys .entry)) phy (now (address .entry)) device attached) ⌝ }
 {
     let p = phy_of(phy);
     if address.len() != 8 {
-        let no = tables::arrival_refusal(phys, p, NO_OTHER_TABLES, NO_BUFFERS, NOT_READY);
-        return linked_c(Linked::Refused(or_else(no, 4)));
+        return identify_refused(phys, p, 4);
+    }
+    if !bytes_fit(device, attached) {
+        return identify_refused(phys, p, 5);
     }
     let whole = wire::eight(address);
-    linked_c(links::identify(phys, p, &whole))
+    linked_c(links::identify(phys, p, &whole, byte_of(device), byte_of(attached)))
 }
 
 pub fn elect_c(phys: &[u8], routes: &[u8]) -> ElectedC
@@ -261,33 +280,46 @@ pub fn broadcast_frame_c(
     ))
 }
 
-// `carried` is not clamped: on a phy that is not participating 255 is answered. A wider number is refused as 5 after every other cause; the
-// byte that the checks get in its place can only add another 5.
+fn all_fit(carried: u32, expander: u32, count: u32) -> bool
+    ensures { λ r. ⌜ r ≡ allFit carried (counted expander count) ⌝ }
+{
+    (carried <= 255) & ((expander <= 65535) & (count <= 255))
+}
+
+// Neither `carried` nor a count is clamped: on a phy that is not participating 255 is answered, and so is every count that fits. A wider number
+// is refused as 5 after every other cause; the byte that the checks get in its place can only add another 5.
 pub fn smp_c(
     width: usize,
     phys: &mut [u8],
     permissions: &mut [u8],
     phy: u32,
     carried: u32,
+    expander: u32,
+    count: u32,
     request: &[u8],
     response: &mut [u8],
     set: &mut [u8],
 ) -> AnsweredC
     requires { ⌜ Width width ⌝ }
-    ensures { λ r. ⌜ given (answeredFields r) (now (phys .exit) ∷ now (permissions .exit) ∷ now (response .exit) ∷ now (set .exit) ∷ []) ≡ inC 3 (smpOutC width (now (phys .entry)) (now (permissions .entry)) phy carried (now (request .entry)) (now (response .entry)) (now (set .entry))) ⌝ }
+    ensures { λ r. ⌜ given (answeredFields r) (now (phys .exit) ∷ now (permissions .exit) ∷ now (response .exit) ∷ now (set .exit) ∷ []) ≡ inC 3 (smpOutC width (now (phys .entry)) (now (permissions .entry)) phy carried (counted expander count) (now (request .entry)) (now (response .entry)) (now (set .entry))) ⌝ }
 {
     let p = phy_of(phy);
-    if 255 < carried {
+    if !all_fit(carried, expander, count) {
         let room = (1020 <= response.len()) & (16 <= set.len());
         let no = smp::smp_refusal(width, phys, permissions, p, 255, request, room);
         return answered_c(Answered::Refused(or_else(no, 5)));
     }
+    let changes = Changes {
+        expander: expander as u16,
+        phy: byte_of(count),
+    };
     answered_c(smp::smp_at(
         width,
         phys,
         permissions,
         p,
-        carried as u8,
+        byte_of(carried),
+        changes,
         request,
         response,
         set,

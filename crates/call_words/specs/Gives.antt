@@ -6,6 +6,7 @@ use Rattle.tables.specs.Outcome.{Answer, Out, out}
 use Rattle.links.specs.Links.{leavingOut, identifyOut}
 use Rattle.opens.specs.Open.{openOut}
 use Rattle.broadcasts.specs.Broadcasts.{primitiveOut, broadcastOut}
+use Rattle.discover.specs.declared.Changes.{Changes}
 use Rattle.smp.specs.Smp.{smpOut}
 use Rattle.lines.specs.Words.{K, words, outcomeWords, replyWords, toldWords, linkWords}
 
@@ -41,8 +42,12 @@ smpLeft o = given replyWords o (buffer 0 o) (buffer 1 o)
 abbrev pub linkLeft : Out → List ℕ → Given
 linkLeft o permissions = given linkWords o (buffer 0 o) permissions
 
+-- document 02, request 03: "the bench gives 1, 0 and counts 0": the caller hands in "both change counts"
+abbrev pub noChanges : Changes
+noChanges = record { expander = 0; phy = 0 }
+
 unfoldable pub smpGives : List ℕ → List ℕ → ℕ → ℕ → List ℕ → Given
-smpGives phys permissions phy carried payload = smpLeft (smpOut 16 phys permissions phy carried payload (zeros 1020) (zeros 16))
+smpGives phys permissions phy carried payload = smpLeft (smpOut 16 phys permissions phy carried noChanges payload (zeros 1020) (zeros 16))
 
 unfoldable pub openGives : List ℕ → List ℕ → ℕ → List ℕ → Given
 openGives phys permissions phy payload = given outcomeWords (openOut 16 phys [] permissions phy payload (zeros 28)) phys permissions
@@ -55,8 +60,9 @@ unfoldable pub broadcastGives : List ℕ → List ℕ → ℕ → List ℕ → G
 broadcastGives phys permissions phy payload =
     given toldWords (broadcastOut 16 phys permissions phy payload (zeros 16) (zeros 28)) phys permissions
 
+-- document 02, request 03: "the bench gives 1, 0": the device type and the attached phy
 unfoldable pub identifyGives : List ℕ → List ℕ → ℕ → List ℕ → Given
-identifyGives phys permissions phy payload = linkLeft (identifyOut phys phy payload) permissions
+identifyGives phys permissions phy payload = linkLeft (identifyOut phys phy payload 1 0) permissions
 
 unfoldable pub leavingGives : List ℕ → List ℕ → ℕ → Given
 leavingGives phys permissions phy = linkLeft (leavingOut phys phy) permissions

@@ -1,5 +1,6 @@
 // The words that each call gives at the bench, put into a text.
 use broadcasts::Told;
+use discover::Changes;
 use links::Linked;
 use opens::Opened;
 use smp::Answered;
@@ -9,10 +10,20 @@ ghost use mathlib.Core.List.{List};
 ghost use Prim.Native.Nat.{ℕ, _+_, _≤_};
 ghost use lib.Dec.{eqb};
 ghost use lib.ListN.{length};
+ghost use Rattle.links.specs.Links.{linkedAs};
+ghost use Rattle.broadcasts.specs.Broadcasts.{toldAs};
+ghost use Rattle.lines.specs.Words.{words, toldWords, linkWords};
+ghost use Rattle.lines.specs.Written.{Wrote};
 ghost use Rattle.call_words.specs.Gives.{smpGives, openGives, primitiveGives, broadcastGives, identifyGives, leavingGives, unknown};
 ghost use Rattle.call_words.specs.Inner.{Gave};
 
-// The words of an SMP request.
+// The type of every device that is attached at the bench.
+const DEVICE: u8 = 1;
+
+// Which of its phys is attached.
+const ATTACHED: u8 = 0;
+
+// The words of an SMP request. The bench counts no changes.
 pub fn smp_words(
     phys: &mut [u8],
     permissions: &mut [u8],
@@ -32,6 +43,10 @@ pub fn smp_words(
         permissions,
         phy,
         carried,
+        Changes {
+            expander: 0,
+            phy: 0,
+        },
         payload,
         &mut response,
         &mut set,
@@ -66,6 +81,17 @@ pub fn open_words(
     }
 }
 
+// The words of what either broadcast call answers.
+fn told_words(told: Told, text: &mut [u8], at: usize) -> usize
+    requires { ⌜ at + 31 ≤ length (now text) ⌝ }
+    ensures { λ r. ⌜ Wrote (now (text .entry)) at (words toldWords (toldAs told)) r (now (text .exit)) × (r ≤ at + 31) ⌝ }
+{
+    match told {
+        Told::Refused(n) => lines::put_count(b'X', n, text, at),
+        Told::Count(n) => lines::put_count(b'B', n, text, at),
+    }
+}
+
 // The words of a primitive.
 pub fn primitive_words(
     phys: &[u8],
@@ -84,10 +110,7 @@ pub fn primitive_words(
     let mut set = [0u8; 16];
     let mut frame = [0u8; 28];
     let told = broadcasts::primitive(phys, permissions, phy, payload[0], &mut set, &mut frame);
-    match told {
-        Told::Refused(n) => lines::put_count(b'X', n, text, at),
-        Told::Count(n) => lines::put_count(b'B', n, text, at),
-    }
+    told_words(told, text, at)
 }
 
 // The words of a broadcast frame.
@@ -105,9 +128,17 @@ pub fn frame_words(
     let mut set = [0u8; 16];
     let mut frame = [0u8; 28];
     let told = broadcasts::broadcast_frame(phys, permissions, phy, payload, &mut set, &mut frame);
-    match told {
-        Told::Refused(n) => lines::put_count(b'X', n, text, at),
-        Told::Count(n) => lines::put_count(b'B', n, text, at),
+    told_words(told, text, at)
+}
+
+// The words of what either link call answers.
+fn linked_words(linked: Linked, text: &mut [u8], at: usize) -> usize
+    requires { ⌜ at + 31 ≤ length (now text) ⌝ }
+    ensures { λ r. ⌜ Wrote (now (text .entry)) at (words linkWords (linkedAs linked)) r (now (text .exit)) × (r ≤ at + 31) ⌝ }
+{
+    match linked {
+        Linked::Refused(n) => lines::put_count(b'X', n, text, at),
+        Linked::Done => lines::put_byte(b'L', text, at),
     }
 }
 
@@ -126,10 +157,7 @@ pub fn leaving_words(
         return lines::put_byte(b'K', text, at);
     }
     let linked = links::leaving(phys, phy);
-    match linked {
-        Linked::Refused(n) => lines::put_count(b'X', n, text, at),
-        Linked::Done => lines::put_byte(b'L', text, at),
-    }
+    linked_words(linked, text, at)
 }
 
 // The words of IDENTIFY, which is handed in as an 8-byte address; whatever the permission table is, it stays.
@@ -147,9 +175,6 @@ pub fn identify_words(
         return lines::put_byte(b'K', text, at);
     }
     let address = wire::eight(payload);
-    let linked = links::identify(phys, phy, &address);
-    match linked {
-        Linked::Refused(n) => lines::put_count(b'X', n, text, at),
-        Linked::Done => lines::put_byte(b'L', text, at),
-    }
+    let linked = links::identify(phys, phy, &address, DEVICE, ATTACHED);
+    linked_words(linked, text, at)
 }

@@ -3,7 +3,7 @@
 use mathlib.Core.Path.{_≡_, sym, ap, _∙_}
 use mathlib.Core.Bool.{Bool, true, false, cond, not, _&&_}
 use mathlib.Core.List.{List}
-use Prim.Native.Nat.{ℕ, _+_, _*_}
+use Prim.Native.Nat.{ℕ, _+_, _*_, _%_}
 use borrow.Author.Tests.{not-true, not-false}
 use lib.Dec.{eqb}
 use lib.ListN.{length, set, length-set}
@@ -40,13 +40,16 @@ cleared m v s new old e h p = rw (← e, h) p
 pub kept : (m v : Bool) (new old : List ℕ) → m ≡ v → m ≡ false → old ≡ cond v new old
 kept m v new old e h = rw (← e, h)
 
--- ---- `attach`: the group is settled, then byte 2 is stored, then the address
-pub attached : (phys : List ℕ) (phy : ℕ) (address u t : List ℕ) → u ≡ unzoned phys phy address
-    → t ≡ paste (set u (phyRecord * phy + 2) 3) (phyRecord * phy + 4) address 8
-    → t ≡ identified phys phy address
-unfolding identified
-attached phys phy address u t e q =
-    q ∙ ap (λ (x : List ℕ). paste (set x (phyRecord * phy + 2) 3) (phyRecord * phy + 4) address 8) e
+-- ---- `attach`: the group is settled, then bytes 2, 12 and 13 are stored, then the address
+module _ (phy d a : ℕ) where
+  abbrev three : List ℕ → List ℕ
+  three u = set (set (set u (phyRecord * phy + 2) 3) (phyRecord * phy + 12) (d % 8)) (phyRecord * phy + 13) a
 
-pub same-stored : (t₀ u t : List ℕ) (i x : ℕ) → length u ≡ length t₀ → length t ≡ length (set u i x) → length t ≡ length t₀
-same-stored t₀ u t i x p q = q ∙ length-set u i x ∙ p
+  pub stored-all : (phys address u t : List ℕ) → u ≡ unzoned phys phy address
+      → t ≡ paste (set (set (set u (phyRecord * phy + 2) 3) (phyRecord * phy + 12) (d % 8)) (phyRecord * phy + 13) a) (phyRecord * phy + 4) address 8
+      → t ≡ identified phys phy address d a
+  unfolding identified
+  stored-all phys address u t e q = q ∙ ap (λ (x : List ℕ). paste (three x) (phyRecord * phy + 4) address 8) e
+
+pub same-stored : (t₀ u t : List ℕ) (i x j y k z : ℕ) → length u ≡ length t₀ → length t ≡ length (set (set (set u i x) j y) k z) → length t ≡ length t₀
+same-stored t₀ u t i x j y k z p q = q ∙ length-set (set (set u i x) j y) k z ∙ length-set (set u i x) j y ∙ length-set u i x ∙ p

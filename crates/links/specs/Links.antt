@@ -55,10 +55,14 @@ moved phys phy address = known phys phy && not (eqb (phyAddress phys phy) (addre
 abbrev pub unzoned : List ℕ → ℕ → List ℕ → List ℕ
 unzoned phys phy address = cond (moved phys phy address) (zoned phys phy 0 0) phys
 
--- "IDENTIFY sets both bits and stores the address." "Both write bits 7 to 2 of byte 2 as zero." "Byte 3 stays."
-unfoldable pub identified : List ℕ → ℕ → List ℕ → List ℕ
-identified phys phy address = paste (set (unzoned phys phy address) (phyRecord * phy + 2) 3) (phyRecord * phy + 4) address 8
+-- "IDENTIFY sets both bits and stores the address." "Both write bits 7 to 2 of byte 2 as zero." "Byte 3 stays."; document 02, request 03:
+-- "12 device type, 13 attached phy", "IDENTIFY hands in the first two (the type's low 3 bits)"
+unfoldable pub identified : List ℕ → ℕ → List ℕ → ℕ → ℕ → List ℕ
+identified phys phy address device attached =
+    paste
+    (set (set (set (unzoned phys phy address) (phyRecord * phy + 2) 3) (phyRecord * phy + 12) (device % 8)) (phyRecord * phy + 13) attached)
+    (phyRecord * phy + 4) address 8
 
-abbrev pub identifyOut : List ℕ → ℕ → List ℕ → Out
-identifyOut phys phy address =
-    outcome (firstRefusal (identifyChecks phys phy address)) [] (phys ∷ []) (identified phys phy address ∷ [])
+abbrev pub identifyOut : List ℕ → ℕ → List ℕ → ℕ → ℕ → Out
+identifyOut phys phy address device attached =
+    outcome (firstRefusal (identifyChecks phys phy address)) [] (phys ∷ []) (identified phys phy address device attached ∷ [])

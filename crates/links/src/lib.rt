@@ -111,25 +111,33 @@ fn unzone(phys: &mut [u8], phy: PhyNumber, address: &[u8; 8])
     }
 }
 
-// Byte 2 says ready, address known.
-fn attach(phys: &mut [u8], phy: PhyNumber, address: &[u8; 8])
+// Byte 2 says ready, address known; bytes 12 and 13 say what is attached.
+fn attach(phys: &mut [u8], phy: PhyNumber, address: &[u8; 8], device: u8, attached: u8)
     requires { ⌜ phy .0 < phyCount (now phys) ⌝ }
-    ensures { λ _. ⌜ now (phys .exit) ≡ identified (now (phys .entry)) (phy .0) (now (address .entry)) ⌝ }
+    ensures { λ _. ⌜ now (phys .exit) ≡ identified (now (phys .entry)) (phy .0) (now (address .entry)) device attached ⌝ }
 {
     let i = phy.0 as usize;
     unzone(phys, phy, address);
     phys[PHY_RECORD * i + 2] = 3;
+    phys[PHY_RECORD * i + 12] = device % 8;
+    phys[PHY_RECORD * i + 13] = attached;
     wire::copy(phys, PHY_RECORD * i + 4, address, 0, 8);
 }
 
-// IDENTIFY arrives on a phy, with the attached SAS address.
-pub fn identify(phys: &mut [u8], phy: PhyNumber, address: &[u8; 8]) -> Linked
-    ensures { λ r. ⌜ out (linkedAs r) (now (phys .exit) ∷ []) ≡ identifyOut (now (phys .entry)) (phy .0) (now (address .entry)) ⌝ }
+// IDENTIFY arrives on a phy, with the attached SAS address, the attached device's type and which of its phys is attached.
+pub fn identify(
+    phys: &mut [u8],
+    phy: PhyNumber,
+    address: &[u8; 8],
+    device: u8,
+    attached: u8,
+) -> Linked
+    ensures { λ r. ⌜ out (linkedAs r) (now (phys .exit) ∷ []) ≡ identifyOut (now (phys .entry)) (phy .0) (now (address .entry)) device attached ⌝ }
 {
     let no = identify_refusal(phys, phy, address);
     if no != 0 {
         return Linked::Refused(no);
     }
-    attach(phys, phy, address);
+    attach(phys, phy, address, device, attached);
     Linked::Done
 }

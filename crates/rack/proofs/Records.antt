@@ -14,12 +14,14 @@ use Rattle.tables.specs.Phys.{phyRecord}
 use Rattle.lines.specs.Written.{written, Wrote}
 use Rattle.lines.proofs.Lines.{written-append, length-written}
 
--- four bytes, and the address behind them
-pub store-done : (t : List ℕ) (at : ℕ) (r : PhyRecord) (end : ℕ) (t₁ : List ℕ) (end₁ : ℕ) (t₂ : List ℕ)
-    → Wrote t at (r .first ∷ r .group ∷ r .flags ∷ 0 ∷ []) end t₁ → Wrote t₁ end (r .address) end₁ t₂ → t₂ ≡ written t at (bytesOf r)
-store-done t at r end t₁ end₁ t₂ v w =
+-- four bytes, the address behind them, and four zeros
+pub store-done : (t : List ℕ) (at : ℕ) (r : PhyRecord) (a : ℕ) (t₁ : List ℕ) (b : ℕ) (t₂ : List ℕ) (c : ℕ) (t₃ : List ℕ)
+    → Wrote t at (r .first ∷ r .group ∷ r .flags ∷ 0 ∷ []) a t₁ → Wrote t₁ a (r .address) b t₂ → Wrote t₂ b (0 ∷ 0 ∷ 0 ∷ 0 ∷ []) c t₃
+    → t₃ ≡ written t at (bytesOf r)
+store-done t at r a t₁ b t₂ c t₃ u v w =
     w .wrote
-    ∙ rw (v .wrote, v .ends) (sym (written-append (r .first ∷ r .group ∷ r .flags ∷ 0 ∷ []) (r .address) t at))
+    ∙ rw (v .wrote, v .ends, ← written-append (r .address) (0 ∷ 0 ∷ 0 ∷ 0 ∷ []) t₁ a, u .wrote, u .ends)
+    (sym (written-append (r .first ∷ r .group ∷ r .flags ∷ 0 ∷ []) (r .address ++ 0 ∷ 0 ∷ 0 ∷ 0 ∷ []) t at))
 
 blank : PhyRecord
 blank = record { first = 0; group = 0; flags = 0; address = [] }

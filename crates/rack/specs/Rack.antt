@@ -4,9 +4,9 @@ use mathlib.Core.List.{List, [], _∷_, _++_}
 use Prim.Native.Nat.{ℕ, _+_}
 use Rattle.rack.specs.declared.PhyRecord.{PhyRecord}
 
--- the twelve bytes of a record
+-- the sixteen bytes of a record
 abbrev pub bytesOf : PhyRecord → List ℕ
-bytesOf r = r .first ∷ r .group ∷ r .flags ∷ 0 ∷ r .address
+bytesOf r = r .first ∷ r .group ∷ r .flags ∷ 0 ∷ (r .address ++ 0 ∷ 0 ∷ 0 ∷ 0 ∷ [])
 
 -- phy i, with byte 0 and the group: ready and known are the bits 0 and 1 of byte 2
 abbrev pub phyOf : ℕ → ℕ → ℕ → PhyRecord

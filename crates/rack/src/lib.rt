@@ -73,8 +73,10 @@ fn store(phys: &mut [u8], at: usize, r: PhyRecord)
 {
     let head = [r.first, r.group, r.flags, 0];
     let address = r.address;
-    let end = lines::put_bytes(&head, phys, at);
-    lines::put_bytes(&address, phys, end);
+    let tail = [0u8; 4];
+    let behind = lines::put_bytes(&head, phys, at);
+    let end = lines::put_bytes(&address, phys, behind);
+    lines::put_bytes(&tail, phys, end);
 }
 
 // The phy table that the bench starts from.

@@ -1,4 +1,6 @@
-// The function byte picks one of three rules.
+// The function byte picks one of four rules.
+use discover::Changes;
+use discover::discover;
 use phy_zone::configure_phy_zone;
 use requests::Ruled;
 use wire::PhyNumber;
@@ -7,28 +9,29 @@ use zone_report::report_zone_permission;
 ghost use mathlib.Core.Path.{_≡_};
 ghost use mathlib.Core.List.{[], _∷_, _++_};
 ghost use Prim.Native.Nat.{_≤_, _<_};
+ghost use lib.Dec.{ltb};
 ghost use lib.ListN.{length, drop};
 ghost use Rattle.permit.specs.Permission.{Table};
 ghost use Rattle.tables.specs.Phys.{phyCount, emptySet};
 ghost use Rattle.requests.specs.Requests.{Lent, Leaves};
 ghost use Rattle.rules.specs.Rules.{functionOf, smpReply, lengthField};
 
-// The length field that the response would have: only a report has one.
-pub fn length_field(
+// Whether the response's length field would pass 255. Only a report's could, so no count is asked for.
+pub fn too_long(
     width: usize,
     phys: &[u8],
     permissions: &[u8],
     phy: PhyNumber,
     carried: u8,
     request: &[u8],
-) -> u16
+) -> bool
     requires { ⌜ (phy .0 < phyCount (now phys)) × Table width (now permissions) × (4 ≤ length (now request)) ⌝ }
-    ensures { λ r. ⌜ r ≡ lengthField width (now (phys .entry)) (now (permissions .entry)) (phy .0) carried (now (request .entry)) ⌝ }
+    ensures { λ r. ⌜ ((changes : Changes) → r ≡ ltb 255 (lengthField width (now (phys .entry)) (now (permissions .entry)) (phy .0) carried changes (now (request .entry)))) ⌝ }
 {
     let function = request[1];
     match function {
-        0x51 => zone_report::report_dwords(width, phys, permissions, phy, carried, request),
-        _ => 0,
+        0x51 => 255 < zone_report::report_dwords(width, phys, permissions, phy, carried, request),
+        _ => false,
     }
 }
 
@@ -45,19 +48,20 @@ fn unknown_function(function: u8, response: &mut [u8], set: &mut [u8]) -> Ruled
     }
 }
 
-// One of three rules.
+// One of four rules. Only DISCOVER shows the change counts.
 pub fn rule(
     width: usize,
     phys: &mut [u8],
     permissions: &mut [u8],
     phy: PhyNumber,
     carried: u8,
+    changes: Changes,
     request: &[u8],
     response: &mut [u8],
     set: &mut [u8],
 ) -> Ruled
     requires { ⌜ Lent width (now phys) (now permissions) (phy .0) (length (now request)) (length (now response)) (length (now set)) ⌝ }
-    ensures { λ r. ⌜ Leaves (functionOf (now (request .entry))) (smpReply width (now (phys .entry)) (now (permissions .entry)) (phy .0) carried (now (request .entry))) (now (response .entry)) (now (set .entry)) (r .result) (r .written) (now (phys .exit)) (now (permissions .exit)) (now (response .exit)) (now (set .exit)) ⌝ }
+    ensures { λ r. ⌜ Leaves (functionOf (now (request .entry))) (smpReply width (now (phys .entry)) (now (permissions .entry)) (phy .0) carried changes (now (request .entry))) (now (response .entry)) (now (set .entry)) (r .result) (r .written) (now (phys .exit)) (now (permissions .exit)) (now (response .exit)) (now (set .exit)) ⌝ }
 {
     let function = request[1];
     match function {
@@ -87,6 +91,17 @@ pub fn rule(
             permissions,
             phy,
             carried,
+            request,
+            response,
+            set,
+        ),
+        0x10 => discover(
+            width,
+            phys,
+            permissions,
+            phy,
+            carried,
+            changes,
             request,
             response,
             set,

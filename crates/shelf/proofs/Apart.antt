@@ -15,8 +15,8 @@ use Rattle.opens.specs.Open.{openSource}
 use Rattle.opens.proofs.OpenLaws as opens
 use Rattle.told_set.proofs.ToldLaws as broadcasts
 use Rattle.shelf.specs.Calls.{outcomeOf}
-use Rattle.shelf.specs.Promises.{AllHeld, Apart, NoOpenApart, NoBroadcastApart}
-use Rattle.shelf.proofs.Answers.{forwarded}
+use Rattle.shelf.specs.Promises.{AllHeld, Apart, NoOpenApart, NoBroadcastApart, NoDiscoverApart}
+use Rattle.shelf.proofs.Answers.{forwarded, vacant}
 use Rattle.shelf.proofs.WidePorts.{relayed}
 
 pub all-held : AllHeld
@@ -34,3 +34,7 @@ no-open-apart w phys routes t phy frame buffer p g s h q o =
 pub no-broadcast-apart : NoBroadcastApart
 no-broadcast-apart w phys t phy source set r i hi h =
     relayed w phys t phy source set r i hi ∙ broadcasts.told-barred w phys t phy source i (apart w t source (phyGroup phys i) h)
+
+pub no-discover-apart : NoDiscoverApart
+no-discover-apart w phys t phy carried changes request response set a b d h v bs e =
+    vacant w phys t phy carried changes request response set a b d (apart w t a b h) v bs e

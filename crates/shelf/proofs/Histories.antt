@@ -25,11 +25,12 @@ use Rattle.opens.specs.Open.{openSource}
 use Rattle.opens.proofs.OpenLaws as opens
 use Rattle.told_set.specs.ToldSet.{toldSet}
 use Rattle.told_set.proofs.ToldLaws as broadcasts
+use Rattle.discover.specs.declared.Changes.{Changes}
 use Rattle.smp.specs.Smp.{roomFor, smpChecks, smpOut, acceptedOrders}
 use Rattle.smp.proofs.SmpLaws.{permissionsAfter, orders-applied, orders-valid}
 use Rattle.shelf.specs.Calls.{Call, startUp, leaving, identify, elect, opening, primitive, broadcastFrame, smp, outcomeOf, bufferOf, after, accepted, kept, run, orders}
-use Rattle.shelf.specs.Promises.{History, BothWays, NoOpen, NoBroadcast}
-use Rattle.shelf.proofs.Answers.{gave, forwarded}
+use Rattle.shelf.specs.Promises.{History, BothWays, NoOpen, NoBroadcast, NoDiscover}
+use Rattle.shelf.proofs.Answers.{gave, forwarded, vacant}
 
 -- the table is what the orders made of start-up's
 record Made (w : ℕ) (t : List ℕ) (os : List Order) : Type 0 where
@@ -51,11 +52,11 @@ second zero values a b os c d ns = refl
 second (suc n) values a b os c d ns = rw (ne-eqb (suc n) 0 (λ z. omega arith))
 
 -- the permission table is the one in the call's contract
-smp-table : (w : ℕ) (phys t : List ℕ) (phy carried : ℕ) (request response set : List ℕ)
-    → bufferOf 1 (smpOut w phys t phy carried request response set) ≡ permissionsAfter w phys t phy carried request (roomFor response set)
+smp-table : (w : ℕ) (phys t : List ℕ) (phy carried : ℕ) (changes : Changes) (request response set : List ℕ)
+    → bufferOf 1 (smpOut w phys t phy carried changes request response set) ≡ permissionsAfter w phys t phy carried changes request (roomFor response set)
 unfolding permissionsAfter
-smp-table w phys t phy carried request response set =
-    second (firstRefusal (smpChecks w phys t phy carried request (roomFor response set))) _ _ _ _ _ _ _
+smp-table w phys t phy carried changes request response set =
+    second (firstRefusal (smpChecks w phys t phy carried changes request (roomFor response set))) _ _ _ _ _ _ _
 
 start-table : (w : ℕ) (t : List ℕ) → length t ≡ tableSize w → bufferOf 0 (startUpOut w t) ≡ startTable w
 unfolding outcome firstRefusal
@@ -78,20 +79,20 @@ step : (w : ℕ) (c : Call) (t : List ℕ) (os : List Order) → Made w t os →
 unfolding after accepted kept outcomeOf apply
 step w startUp t os m = begins w t os (length-made w t os m)
 step w (leaving phys phy) t os m = nothing-more w t os m
-step w (identify phys phy address) t os m = nothing-more w t os m
+step w (identify phys phy address device attached) t os m = nothing-more w t os m
 step w (elect phys routes) t os m = nothing-more w t os m
 step w (opening phys routes phy frame buffer) t os m = nothing-more w t os m
 step w (primitive phys phy number set frame) t os m = nothing-more w t os m
 step w (broadcastFrame phys phy arrived set frame) t os m = nothing-more w t os m
-step w (smp phys phy carried request response set) t os m =
-    let os₁ = acceptedOrders w phys t phy carried request (roomFor response set) in
+step w (smp phys phy carried changes request response set) t os m =
+    let os₁ = acceptedOrders w phys t phy carried changes request (roomFor response set) in
     record {
       made =
-          smp-table w phys t phy carried request response set
-          ∙ orders-applied w phys t phy carried request (roomFor response set)
+          smp-table w phys t phy carried changes request response set
+          ∙ orders-applied w phys t phy carried changes request (roomFor response set)
           ∙ ap (apply w os₁) (m .made)
           ∙ sym (apply-append w os os₁ (startTable w));
-      valid = valid-append w os os₁ (m .valid) (orders-valid w phys t phy carried request (roomFor response set));
+      valid = valid-append w os os₁ (m .valid) (orders-valid w phys t phy carried changes request (roomFor response set));
     }
 
 runs : (w : ℕ) (cs : List Call) (t : List ℕ) (os : List Order) → Made w t os → Made w (run w cs t) (orders w cs t os)
@@ -136,3 +137,7 @@ no-broadcast w t cs e phys phy arrived set frame number source i hi za zb h v bs
 no-broadcast w t cs e phys phy arrived set frame number source i hi za zb h v bs (inr (es, o)) =
     ap (λ (b : List (List ℕ)). member (getD b 0 []) i) (gave _ _ _ _ _ bs o .1)
     ∙ unheard w phys (run w (startUp ∷ cs) t) phy source _ i (drop 16 set) (sym es) hi (off w t cs e source (phyGroup phys i) za zb h)
+
+pub no-discover : NoDiscover
+no-discover w t cs e phys phy carried changes request response set a b d za zb h v bs o =
+    vacant w phys (run w (startUp ∷ cs) t) phy carried changes request response set a b d (off w t cs e a b za zb h) v bs o

@@ -23,6 +23,8 @@ use Rattle.requests.specs.Requests.{smpSource, right}
 use Rattle.phy_zone.specs.PhyZone.{phyZoneReply}
 use Rattle.zone_permission.specs.ZonePermission.{permissionReply}
 use Rattle.zone_report.specs.ZoneReport.{reportReply}
+use Rattle.discover.specs.declared.Changes.{Changes}
+use Rattle.discover.specs.Discover.{reachesPhy, shown, discoverReply}
 use Rattle.rules.specs.Rules.{smpReply, lengthField}
 use Rattle.smp.specs.Smp.{roomFor, smpOut}
 use Rattle.shelf.specs.Calls.{outcomeOf}
@@ -52,7 +54,7 @@ speaks phys phy carried p = rw p
 pub no-group : NoGroupNoAnswer
 unfolding outcomeOf
 no-group = (
-  λ w phys t phy carried request response set v bs p e.
+  λ w phys t phy carried changes request response set v bs p e.
       let k = arrival-clear phys phy (permissionsSized w t) (roomFor response set) true _ _ refl (unrefused _ _ _ _ v bs e) tt in
       group-most carried (sym (ap (λ (o : OutsideGroup). not (isGroup o)) (speaks phys phy carried p)) ∙ k .1 .1 .1 .0),
   λ w phys t phy arrived set frame v bs e.
@@ -66,17 +68,18 @@ module _ (w : ℕ) (phys t : List ℕ) (phy carried other : ℕ) (e : smpSource 
   unfolding right
   same-right = rw e
 
-  same-reply : (request : List ℕ) → smpReply w phys t phy carried request ≡ smpReply w phys t phy other request
-  unfolding smpReply phyZoneReply permissionReply reportReply
-  same-reply request = rw same-right
+  same-reply : (changes : Changes) (request : List ℕ) → smpReply w phys t phy carried changes request ≡ smpReply w phys t phy other changes request
+  unfolding smpReply phyZoneReply permissionReply reportReply discoverReply shown reachesPhy
+  same-reply changes request = rw (same-right, e)
 
-  same-out : (request response set : List ℕ) → smpOut w phys t phy carried request response set ≡ smpOut w phys t phy other request response set
+  same-out : (changes : Changes) (request response set : List ℕ)
+      → smpOut w phys t phy carried changes request response set ≡ smpOut w phys t phy other changes request response set
   unfolding lengthField
-  same-out request response set = rw (e, same-reply request)
+  same-out changes request response set = rw (e, same-reply changes request)
 
 pub carried-unread : CarriedUnread
 unfolding outcomeOf smpSource
-carried-unread w phys t phy carried other request response set p = same-out w phys t phy carried other (rw p) request response set
+carried-unread w phys t phy carried other changes request response set p = same-out w phys t phy carried other (rw p) changes request response set
 
 -- ---- routes
 pub skipped : Skipped

@@ -16,6 +16,7 @@ use Rattle.election.proofs.ElectionLaws.{greatest}
 use Rattle.told_set.specs.ToldSet.{toldSet}
 use Rattle.broadcasts.specs.Broadcasts.{frameSource}
 use Rattle.told_set.proofs.ToldLaws.{length-told}
+use Rattle.discover.specs.declared.Changes.{Changes}
 use Rattle.rules.specs.Rules.{smpReply}
 use Rattle.rules.proofs.RuleLaws.{set-16}
 use Rattle.rack.specs.Rack.{rackTable}
@@ -27,7 +28,7 @@ use Rattle.shelf.proofs.Worked.{cases}
 
 -- case 1 as a call
 abbrev ordering : Call
-ordering = smp rackTable 0 0 single89 (replicate 1020 0) (replicate 16 0)
+ordering = smp rackTable 0 0 (record { expander = 0; phy = 0 }) single89 (replicate 1020 0) (replicate 16 0)
 
 -- case 1 is answered
 answered : answerOf (outcomeOf 16 ordering (startTable 16)) ≡ answer (0 ∷ 4 ∷ 8 ∷ [])
@@ -35,7 +36,7 @@ unfolding outcomeOf fresh asks
 answered = cases .0 .0
 
 -- case 5 is answered otherwise
-turned : answerOf (outcomeOf 16 (smp rackTable 2 0 single89 (replicate 1020 0) (replicate 16 0)) after1) ≡ answer (1 ∷ 4 ∷ 0 ∷ [])
+turned : answerOf (outcomeOf 16 (smp rackTable 2 0 (record { expander = 0; phy = 0 }) single89 (replicate 1020 0) (replicate 16 0)) after1) ≡ answer (1 ∷ 4 ∷ 0 ∷ [])
 unfolding outcomeOf asks
 turned = cases .0 .6
 
@@ -61,9 +62,9 @@ counted = (
   λ w phys t phy arrived set frame n bs e. let g = gave _ _ _ _ (n ∷ []) bs e in
       let v : n ≡ physIn (toldSet w phys t phy (frameSource arrived)) = cc (g .0) in
       counts n (toldSet w phys t phy (frameSource arrived)) (drop 16 set) (getD bs 0 []) v (ap (λ (l : List (List ℕ)). getD l 0 []) (g .1)) (length-told w phys t phy (frameSource arrived)),
-  λ w phys t phy carried request response set result written n bs e. let g = gave _ _ _ _ (result ∷ written ∷ n ∷ []) bs e in
-      let v : n ≡ physIn ((smpReply w phys t phy carried request) .set) = cc (g .0) in
-      counts n ((smpReply w phys t phy carried request) .set) (drop 16 set) (getD bs 3 []) v (ap (λ (l : List (List ℕ)). getD l 3 []) (g .1)) (set-16 w phys t phy carried request),
+  λ w phys t phy carried changes request response set result written n bs e. let g = gave _ _ _ _ (result ∷ written ∷ n ∷ []) bs e in
+      let v : n ≡ physIn ((smpReply w phys t phy carried changes request) .set) = cc (g .0) in
+      counts n ((smpReply w phys t phy carried changes request) .set) (drop 16 set) (getD bs 3 []) v (ap (λ (l : List (List ℕ)). getD l 3 []) (g .1)) (set-16 w phys t phy carried changes request),
 )
 
 -- ---- the supervisor
@@ -75,16 +76,16 @@ differ : true ≡ false → ⊥
 differ e = let z : _≡_ {A = ℕ} 0 1 = cc in omega arith
 
 -- by an order that is accepted and changes the table, and another that is turned down
-module _ (w : ℕ) (phys t u : List ℕ) (phy far : ℕ) (request other response set : List ℕ) (k : ℕ) where
-  pub shut-by : answerOf (outcomeOf w (smp phys phy 0 request response set) t) ≡ answer (0 ∷ 4 ∷ k ∷ [])
-      → answerOf (outcomeOf w (smp phys far 0 other response set) u) ≡ answer (1 ∷ 4 ∷ 0 ∷ [])
-      → (after w (smp phys phy 0 request response set) t ≡ t → ⊥) → ShutOut w
+module _ (w : ℕ) (phys t u : List ℕ) (phy far : ℕ) (changes : Changes) (request other response set : List ℕ) (k : ℕ) where
+  pub shut-by : answerOf (outcomeOf w (smp phys phy 0 changes request response set) t) ≡ answer (0 ∷ 4 ∷ k ∷ [])
+      → answerOf (outcomeOf w (smp phys far 0 changes other response set) u) ≡ answer (1 ∷ 4 ∷ 0 ∷ [])
+      → (after w (smp phys phy 0 changes request response set) t ≡ t → ⊥) → ShutOut w
   shut-by yields turned changed = (
-    λ h. differ (sym (sym (ap refused yields) ∙ h (smp phys phy 0 request response set) t)),
-    λ a h. let e : answer (0 ∷ 4 ∷ k ∷ []) ≡ answer (1 ∷ 4 ∷ 0 ∷ []) = sym yields ∙ h phys t phy 0 request response set ∙ sym (h phys u far 0 other response set) ∙ turned in
+    λ h. differ (sym (sym (ap refused yields) ∙ h (smp phys phy 0 changes request response set) t)),
+    λ a h. let e : answer (0 ∷ 4 ∷ k ∷ []) ≡ answer (1 ∷ 4 ∷ 0 ∷ []) = sym yields ∙ h phys t phy 0 changes request response set ∙ sym (h phys u far 0 changes other response set) ∙ turned in
         let z : _≡_ {A = ℕ} 0 1 = cc in omega arith,
-    λ h. changed (h (smp phys phy 0 request response set) t),
+    λ h. changed (h (smp phys phy 0 changes request response set) t),
   )
 
 pub shut-out : ShutOut 16
-shut-out = shut-by 16 rackTable (startTable 16) after1 0 2 single89 single89 (replicate 1020 0) (replicate 16 0) 8 answered turned (λ e. differ (changed e ∙ was-off))
+shut-out = shut-by 16 rackTable (startTable 16) after1 0 2 (record { expander = 0; phy = 0 }) single89 single89 (replicate 1020 0) (replicate 16 0) 8 answered turned (λ e. differ (changed e ∙ was-off))

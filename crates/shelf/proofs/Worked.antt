@@ -1,4 +1,4 @@
--- Cases 1 to 12, and that later rows and descriptors are handled too, each by computation.
+-- Cases 1 to 12, DISCOVER, and that later rows and descriptors are handled too, each by computation.
 -- Assumes nothing.
 use mathlib.Core.Path.{refl}
 use Rattle.wire.specs.Address.{bigEndian, addressAt}
@@ -13,6 +13,7 @@ use Rattle.tables.specs.Ports.{samePort}
 use Rattle.tables.specs.Routes.{routesSized}
 use Rattle.tables.specs.Arrival.{arrivalChecks}
 use Rattle.tables.specs.Refusals.{firstRefusal}
+use Rattle.links.specs.Links.{identified}
 use Rattle.opens.specs.Open.{openSource, judge, byte20, sent}
 use Rattle.searches.specs.Search.{sameBytes, zeroBytes, findPhy, findRoute, search}
 use Rattle.told_set.specs.ToldSet.{permitted, permittedInPort, told, toldSet}
@@ -22,13 +23,14 @@ use Rattle.phy_zone.specs.PhyZone.{sound, allSound, configured, phyZoneReply}
 use Rattle.zone_permission.specs.ZonePermission.{operationChecks, ordersOf, permissionReply}
 use Rattle.zone_report.specs.ZoneReport.{rowCount, rows, reportReply}
 use Rattle.shown_rows.specs.ShownRows.{shownByte, shownRows}
+use Rattle.discover.specs.Discover.{lengthSaid, reachesPhy, shown, byteAt, description, discoverReply}
 use Rattle.rules.specs.Rules.{smpReply, lengthField}
 use Rattle.rack.specs.Rack.{rack, flat, rackTable}
-use Rattle.shelf.specs.Cases.{Cases, LaterToo, asks, fresh, single89, after1, opens2, changes2, phyZone, batch, rows89}
+use Rattle.shelf.specs.Cases.{Cases, LaterToo, asks, fresh, single89, after1, opens2, changes2, phyZone, batch, rows89, discover, oneWay, visitor, visits}
 
 pub cases : Cases × LaterToo
-unfolding bigEndian addressAt outsideGroup bit setBit tab member bitsOf setByte setOf tally physIn apply rowOrders batchOrders rowsEnd place P reaches shownByte shownRows setP setBoth startByte startTable outcome physSized routesSized arrivalChecks readySet emptySet zoned firstRefusal openSource judge byte20 sent sameBytes zeroBytes findPhy findRoute search samePort some permitted permittedInPort told toldSet frameByte frameOf typedLength smpSource right replied sound allSound configured phyZoneReply operationChecks ordersOf permissionReply rowCount rows reportReply smpReply lengthField rack flat rackTable asks fresh single89 after1 opens2 changes2 phyZone batch rows89
+unfolding bigEndian addressAt outsideGroup bit setBit tab member bitsOf setByte setOf tally physIn apply rowOrders batchOrders rowsEnd place P reaches shownByte shownRows setP setBoth startByte startTable outcome physSized routesSized arrivalChecks readySet emptySet zoned firstRefusal openSource judge byte20 sent sameBytes zeroBytes findPhy findRoute search samePort some permitted permittedInPort told toldSet frameByte frameOf typedLength smpSource right replied sound allSound configured phyZoneReply operationChecks ordersOf permissionReply rowCount rows reportReply lengthSaid reachesPhy shown byteAt description discoverReply identified smpReply lengthField rack flat rackTable asks fresh single89 after1 opens2 changes2 phyZone batch rows89 discover oneWay visitor visits
 cases = (
-  (refl, (refl, refl), refl, refl, refl, refl, refl, refl, refl, refl, refl, refl, refl, refl, (refl, refl), refl, refl, refl),
+  (refl, (refl, refl), refl, refl, refl, refl, refl, refl, refl, refl, refl, refl, refl, refl, (refl, refl), refl, refl, refl, refl, refl, refl, refl, refl, refl, (refl, refl), refl, refl, refl),
   (refl, refl),
 )

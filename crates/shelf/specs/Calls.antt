@@ -10,41 +10,42 @@ use Rattle.links.specs.Links.{startUpOut, leavingOut, identifyOut}
 use Rattle.election.specs.Election.{electOut}
 use Rattle.opens.specs.Open.{openOut}
 use Rattle.broadcasts.specs.Broadcasts.{primitiveOut, broadcastOut}
+use Rattle.discover.specs.declared.Changes.{Changes}
 use Rattle.smp.specs.Smp.{roomFor, smpOut, acceptedOrders}
 
 -- the other tables may be anything at each call
 pub data Call : Type 0 where
   startUp : Call
   leaving : (phys : List ℕ) (phy : ℕ) → Call
-  identify : (phys : List ℕ) (phy : ℕ) (address : List ℕ) → Call
+  identify : (phys : List ℕ) (phy : ℕ) (address : List ℕ) (device attached : ℕ) → Call
   elect : (phys routes : List ℕ) → Call
   opening : (phys routes : List ℕ) (phy : ℕ) (frame buffer : List ℕ) → Call
   primitive : (phys : List ℕ) (phy number : ℕ) (set frame : List ℕ) → Call
   broadcastFrame : (phys : List ℕ) (phy : ℕ) (arrived set frame : List ℕ) → Call
-  smp : (phys : List ℕ) (phy carried : ℕ) (request response set : List ℕ) → Call
+  smp : (phys : List ℕ) (phy carried : ℕ) (changes : Changes) (request response set : List ℕ) → Call
 
 -- what a call gives, lent the permission table t, whose rows have w bytes: the definition in its contract. Document 01's shelf is w = 16,
 -- the small shelf w = 1.
 unfoldable pub outcomeOf : ℕ → Call → List ℕ → Out
 outcomeOf w startUp t = startUpOut w t
 outcomeOf w (leaving phys phy) t = leavingOut phys phy
-outcomeOf w (identify phys phy address) t = identifyOut phys phy address
+outcomeOf w (identify phys phy address device attached) t = identifyOut phys phy address device attached
 outcomeOf w (elect phys routes) t = electOut phys routes
 outcomeOf w (opening phys routes phy frame buffer) t = openOut w phys routes t phy frame buffer
 outcomeOf w (primitive phys phy number set frame) t = primitiveOut w phys t phy number set frame
 outcomeOf w (broadcastFrame phys phy arrived set frame) t = broadcastOut w phys t phy arrived set frame
-outcomeOf w (smp phys phy carried request response set) t = smpOut w phys t phy carried request response set
+outcomeOf w (smp phys phy carried changes request response set) t = smpOut w phys t phy carried changes request response set
 
 -- the buffers that a call is lent to be written, as they were handed in
 unfoldable pub handedIn : Call → List ℕ → List (List ℕ)
 handedIn startUp t = t ∷ []
 handedIn (leaving phys phy) t = phys ∷ []
-handedIn (identify phys phy address) t = phys ∷ []
+handedIn (identify phys phy address device attached) t = phys ∷ []
 handedIn (elect phys routes) t = []
 handedIn (opening phys routes phy frame buffer) t = buffer ∷ []
 handedIn (primitive phys phy number set frame) t = set ∷ frame ∷ []
 handedIn (broadcastFrame phys phy arrived set frame) t = set ∷ frame ∷ []
-handedIn (smp phys phy carried request response set) t = phys ∷ t ∷ response ∷ set ∷ []
+handedIn (smp phys phy carried changes request response set) t = phys ∷ t ∷ response ∷ set ∷ []
 
 -- the answer alone
 abbrev pub answerOf : Out → Answer
@@ -57,9 +58,9 @@ bufferOf k (out a bs) = getD bs k []
 -- the permission table after a call: only start-up and SMP are lent it to be written
 unfoldable pub after : ℕ → Call → List ℕ → List ℕ
 after w startUp t = bufferOf 0 (outcomeOf w startUp t)
-after w (smp phys phy carried request response set) t = bufferOf 1 (outcomeOf w (smp phys phy carried request response set) t)
+after w (smp phys phy carried changes request response set) t = bufferOf 1 (outcomeOf w (smp phys phy carried changes request response set) t)
 after w (leaving phys phy) t = t
-after w (identify phys phy address) t = t
+after w (identify phys phy address device attached) t = t
 after w (elect phys routes) t = t
 after w (opening phys routes phy frame buffer) t = t
 after w (primitive phys phy number set frame) t = t
@@ -67,10 +68,10 @@ after w (broadcastFrame phys phy arrived set frame) t = t
 
 -- the orders that a call accepted: those of an SMP request answered 00h with C1h
 unfoldable pub accepted : ℕ → Call → List ℕ → List Order
-accepted w (smp phys phy carried request response set) t = acceptedOrders w phys t phy carried request (roomFor response set)
+accepted w (smp phys phy carried changes request response set) t = acceptedOrders w phys t phy carried changes request (roomFor response set)
 accepted w startUp t = []
 accepted w (leaving phys phy) t = []
-accepted w (identify phys phy address) t = []
+accepted w (identify phys phy address device attached) t = []
 accepted w (elect phys routes) t = []
 accepted w (opening phys routes phy frame buffer) t = []
 accepted w (primitive phys phy number set frame) t = []
@@ -81,12 +82,12 @@ accepted w (broadcastFrame phys phy arrived set frame) t = []
 unfoldable pub kept : ℕ → Call → List ℕ → List Order → List Order
 kept w startUp t os = cond (permissionsSized w t) [] os
 kept w (leaving phys phy) t os = os
-kept w (identify phys phy address) t os = os
+kept w (identify phys phy address device attached) t os = os
 kept w (elect phys routes) t os = os
 kept w (opening phys routes phy frame buffer) t os = os
 kept w (primitive phys phy number set frame) t os = os
 kept w (broadcastFrame phys phy arrived set frame) t os = os
-kept w (smp phys phy carried request response set) t os = os
+kept w (smp phys phy carried changes request response set) t os = os
 
 -- "while each call is lent the same permission table and only this software writes it": the table after a run of calls
 unfoldable pub run : ℕ → List Call → List ℕ → List ℕ

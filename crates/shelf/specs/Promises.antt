@@ -1,7 +1,7 @@
 -- What is promised, for every row width w: of document 01's shelf, w = 16, and of the small shelf, w = 1. The proofs are in proofs/: Answers.antt
 -- (Refusals, TurnedDown), Exactly.antt (ExactlyOne), Worked.antt (Cases, whose rows are in Cases.antt, and LaterToo), Histories.antt (History,
--- BothWays, NoOpen, NoBroadcast), WidePorts.antt (ToldPermitted, ToldOnce, EachPortTold, NoReturn, LeavesPort), Apart.antt (AllHeld, NoOpenApart,
--- NoBroadcastApart), Outside.antt (NoGroupNoAnswer, CarriedUnread, Skipped) and Shut.antt (Counted, Supervisor, ShutOut). Quotes are of the
+-- BothWays, NoOpen, NoBroadcast, NoDiscover), WidePorts.antt (ToldPermitted, ToldOnce, EachPortTold, NoReturn, LeavesPort), Apart.antt (AllHeld,
+-- NoOpenApart, NoBroadcastApart, NoDiscoverApart), Outside.antt (NoGroupNoAnswer, CarriedUnread, Skipped) and Shut.antt (Counted, Supervisor, ShutOut). Quotes are of the
 -- three demands, docs/PROMISES.md, of document 01 and of document 02.
 use mathlib.Core.Path.{_≡_}
 use mathlib.Core.Bool.{Bool, true, false}
@@ -11,11 +11,12 @@ use Prim.Native.Nat.{ℕ, _%_, _≤_, _<_}
 use lib.ListN.{length, getD, drop}
 use Rattle.wire.specs.declared.PhyNumber.{PhyNumber}
 use Rattle.wire.specs.declared.ZoneGroup.{ZoneGroup}
+use Rattle.wire.specs.declared.OutsideGroup.the-variants.{Group}
 use Rattle.wire.specs.PhySet.{member, physIn}
 use Rattle.permit.specs.Permission.{groups, tableSize, P, reaches}
 use Rattle.permit.specs.History.{Zone, latest, Says}
 use Rattle.tables.specs.Outcome.{Answer, refusal, answer, Out, out}
-use Rattle.tables.specs.Phys.{phyGroup, participating, emptySet}
+use Rattle.tables.specs.Phys.{phyCount, phyGroup, participating, emptySet}
 use Rattle.tables.specs.Ports.{samePort}
 use Rattle.tables.specs.Routes.{routeRecord}
 use Rattle.links.specs.Links.{linkedAs}
@@ -25,7 +26,10 @@ use Rattle.opens.specs.declared.Opened.the-variants.{Forward}
 use Rattle.searches.specs.Search.{search}
 use Rattle.opens.specs.Open.{openedAs, openSource, openOut}
 use Rattle.told_set.specs.ToldSet.{permitted}
+use Rattle.requests.specs.Requests.{smpSource}
 use Rattle.broadcasts.specs.Broadcasts.{toldAs, frameSource, primitiveOut, broadcastOut}
+use Rattle.discover.specs.declared.Changes.{Changes}
+use Rattle.discover.specs.Discover.{lengthSaid, ignoresGroups, askedPhy}
 use Rattle.rules.specs.Rules.{functionOf}
 use Rattle.smp.specs.Smp.{answeredAs}
 use Rattle.shelf.specs.Calls.{Call, startUp, leaving, opening, primitive, broadcastFrame, smp, outcomeOf, handedIn, answerOf, after, run, orders}
@@ -39,8 +43,8 @@ Refusals = (w : ℕ) (c : Call) (t : List ℕ) (n : ℕ) (bs : List (List ℕ)) 
 -- "An SMP request turned down by a function result writes only its four response bytes and a phy set of zeros."
 abbrev pub TurnedDown : Type 0
 TurnedDown =
-    (w : ℕ) (phys t : List ℕ) (phy carried : ℕ) (request response set : List ℕ) (result written told : ℕ) (bs : List (List ℕ))
-    → outcomeOf w (smp phys phy carried request response set) t ≡ out (answer (result ∷ written ∷ told ∷ [])) bs → (result ≡ 0 → ⊥)
+    (w : ℕ) (phys t : List ℕ) (phy carried : ℕ) (changes : Changes) (request response set : List ℕ) (result written told : ℕ) (bs : List (List ℕ))
+    → outcomeOf w (smp phys phy carried changes request response set) t ≡ out (answer (result ∷ written ∷ told ∷ [])) bs → (result ≡ 0 → ⊥)
     → (written ≡ 4) × (told ≡ 0)
     × (bs ≡ phys ∷ t ∷ ((0x41 ∷ functionOf request ∷ result ∷ 0 ∷ []) ++ drop 4 response) ∷ (emptySet ++ drop 16 set) ∷ [])
 
@@ -88,6 +92,30 @@ NoBroadcast =
     → ((source ≡ phyGroup phys phy) × (primitiveOut w phys (run w (startUp ∷ cs) t) phy number set frame ≡ out (answer v) bs))
     ⊎ ((source ≡ frameSource arrived) × (broadcastOut w phys (run w (startUp ∷ cs) t) phy arrived set frame ≡ out (answer v) bs))
     → member (getD bs 0 []) i ≡ false
+
+-- a DISCOVER of the form that document 02 asks for, with the ignore bit zero, from the source group a, for a phy of group b
+pub record Discovers (phys : List ℕ) (phy carried : ℕ) (request : List ℕ) (a b : ℕ) : Type 0 where
+  pub function : functionOf request ≡ 0x10
+  pub whole : length request ≡ 12
+  pub said : lengthSaid request ≡ true
+  pub heeds : ignoresGroups request ≡ false
+  pub there : askedPhy request < phyCount phys
+  pub from : smpSource phys phy carried ≡ Group (record { 0 = a })
+  pub for : phyGroup phys (askedPhy request) ≡ b
+
+-- "PHY VACANT" and nothing else: result 16h, four bytes, nobody told; and the four buffers, of which both tables stay
+abbrev pub Vacant : List ℕ → List ℕ → List ℕ → List ℕ → List ℕ → List (List ℕ) → Type 0
+Vacant phys t response set v bs =
+    (v ≡ 0x16 ∷ 4 ∷ 0 ∷ []) × (bs ≡ phys ∷ t ∷ ((0x41 ∷ 0x10 ∷ 0x16 ∷ 0 ∷ []) ++ drop 4 response) ∷ (emptySet ++ drop 16 set) ∷ [])
+
+-- and no DISCOVER with the ignore bit zero from a shows a phy of b
+abbrev pub NoDiscover : Type 0
+NoDiscover =
+    (w : ℕ) (t : List ℕ) (cs : List Call) → length t ≡ tableSize w
+    → (phys : List ℕ) (phy carried : ℕ) (changes : Changes) (request response set : List ℕ) (a b : ℕ) → Discovers phys phy carried request a b
+    → Zone w a → Zone w b → latest (orders w (startUp ∷ cs) t []) a b false ≡ false
+    → (v : List ℕ) (bs : List (List ℕ)) → outcomeOf w (smp phys phy carried changes request response set) (run w (startUp ∷ cs) t) ≡ out (answer v) bs
+    → Vacant phys (run w (startUp ∷ cs) t) response set v bs
 
 -- ---- Ports: "A port is from now on all ready phys with the same attached address"
 
@@ -158,21 +186,29 @@ NoBroadcastApart =
     (w : ℕ) (phys t : List ℕ) (phy source : ℕ) (set : List ℕ) → Relayed w phys t phy source set
     → (i : ℕ) → i < 128 → Apart w source (phyGroup phys i) → member set i ≡ false
 
+-- and no DISCOVER with the ignore bit zero from the one shows a phy of the other
+abbrev pub NoDiscoverApart : Type 0
+NoDiscoverApart =
+    (w : ℕ) (phys t : List ℕ) (phy carried : ℕ) (changes : Changes) (request response set : List ℕ) (a b : ℕ) → Discovers phys phy carried request a b
+    → Apart w a b
+    → (v : List ℕ) (bs : List (List ℕ)) → outcomeOf w (smp phys phy carried changes request response set) t ≡ out (answer v) bs
+    → Vacant phys t response set v bs
+
 -- ---- Groups from outside: "a byte above 127 is no group, and every caller must act on it"
 
 -- "such a carried byte or frame byte, on a participating phy, is refusal 5": a call that carries one is not answered
 abbrev pub NoGroupNoAnswer : Type 0
 NoGroupNoAnswer =
-    ((w : ℕ) (phys t : List ℕ) (phy carried : ℕ) (request response set v : List ℕ) (bs : List (List ℕ)) → participating phys phy ≡ true
-    → outcomeOf w (smp phys phy carried request response set) t ≡ out (answer v) bs → carried ≤ 127)
+    ((w : ℕ) (phys t : List ℕ) (phy carried : ℕ) (changes : Changes) (request response set v : List ℕ) (bs : List (List ℕ)) → participating phys phy ≡ true
+    → outcomeOf w (smp phys phy carried changes request response set) t ≡ out (answer v) bs → carried ≤ 127)
     × ((w : ℕ) (phys t : List ℕ) (phy : ℕ) (arrived set frame v : List ℕ) (bs : List (List ℕ))
     → outcomeOf w (broadcastFrame phys phy arrived set frame) t ≡ out (answer v) bs → frameSource arrived ≤ 127)
 
 -- on a phy that is not participating the byte carried for SMP decides nothing, whatever it is
 abbrev pub CarriedUnread : Type 0
 CarriedUnread =
-    (w : ℕ) (phys t : List ℕ) (phy carried other : ℕ) (request response set : List ℕ) → participating phys phy ≡ false
-    → outcomeOf w (smp phys phy carried request response set) t ≡ outcomeOf w (smp phys phy other request response set) t
+    (w : ℕ) (phys t : List ℕ) (phy carried other : ℕ) (changes : Changes) (request response set : List ℕ) → participating phys phy ≡ false
+    → outcomeOf w (smp phys phy carried changes request response set) t ≡ outcomeOf w (smp phys phy other changes request response set) t
 
 -- "Such a route record is skipped in searches and in the election.": the tables give what they give without it
 abbrev pub Skipped : Type 0
@@ -190,8 +226,8 @@ Counted =
     → outcomeOf w (primitive phys phy number set frame) t ≡ out (answer (n ∷ [])) bs → n ≡ physIn (getD bs 0 []))
     × ((w : ℕ) (phys t : List ℕ) (phy : ℕ) (arrived set frame : List ℕ) (n : ℕ) (bs : List (List ℕ))
     → outcomeOf w (broadcastFrame phys phy arrived set frame) t ≡ out (answer (n ∷ [])) bs → n ≡ physIn (getD bs 0 []))
-    × ((w : ℕ) (phys t : List ℕ) (phy carried : ℕ) (request response set : List ℕ) (result written n : ℕ) (bs : List (List ℕ))
-    → outcomeOf w (smp phys phy carried request response set) t ≡ out (answer (result ∷ written ∷ n ∷ [])) bs → n ≡ physIn (getD bs 3 []))
+    × ((w : ℕ) (phys t : List ℕ) (phy carried : ℕ) (changes : Changes) (request response set : List ℕ) (result written n : ℕ) (bs : List (List ℕ))
+    → outcomeOf w (smp phys phy carried changes request response set) t ≡ out (answer (result ∷ written ∷ n ∷ [])) bs → n ≡ physIn (getD bs 3 []))
 
 -- ---- The supervisor: "higher priority wins, then the greater address"
 abbrev pub Supervisor : Type 0
@@ -208,6 +244,6 @@ refused (answer values) = false
 abbrev pub ShutOut : ℕ → Type 0
 ShutOut w =
     (((c : Call) (t : List ℕ) → refused (answerOf (outcomeOf w c t)) ≡ true) → ⊥)
-    × ((a : Answer) → ((phys t : List ℕ) (phy carried : ℕ) (request response set : List ℕ)
-    → answerOf (outcomeOf w (smp phys phy carried request response set) t) ≡ a) → ⊥)
+    × ((a : Answer) → ((phys t : List ℕ) (phy carried : ℕ) (changes : Changes) (request response set : List ℕ)
+    → answerOf (outcomeOf w (smp phys phy carried changes request response set) t) ≡ a) → ⊥)
     × (((c : Call) (t : List ℕ) → after w c t ≡ t) → ⊥)

@@ -40,5 +40,5 @@ groups-2-to-7 t cs e a b la ha lb hb =
 pub shut-out : ShutOut 1
 unfolding outcomeOf after asks fresh
 shut-out =
-    shut-by 1 rackTable (startTable 1) (startTable 1) 0 2 (single 2 3) (single 7 8) (replicate 1020 0) (replicate 16 0) 0
+    shut-by 1 rackTable (startTable 1) (startTable 1) 0 2 (record { expander = 0; phy = 0 }) (single 2 3) (single 7 8) (replicate 1020 0) (replicate 16 0) 0
     (cases .5) (cases .13) (λ e. let z : _≡_ {A = ℕ} 10 2 = ap (λ (t : List ℕ). getD t 2 0) (sym (cases .6) ∙ e ∙ cases .0) in omega arith)

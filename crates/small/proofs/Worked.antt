@@ -1,4 +1,4 @@
--- Request 09's rows, each by computation.
+-- Request 09's rows and DISCOVER's, each by computation.
 -- Assumes nothing.
 use mathlib.Core.Path.{refl}
 use Rattle.wire.specs.Address.{bigEndian, addressAt}
@@ -22,12 +22,13 @@ use Rattle.phy_zone.specs.PhyZone.{sound, allSound, configured, phyZoneReply}
 use Rattle.zone_permission.specs.ZonePermission.{operationChecks, ordersOf, permissionReply}
 use Rattle.zone_report.specs.ZoneReport.{rowCount, rows, reportReply}
 use Rattle.shown_rows.specs.ShownRows.{shownByte, shownRows}
+use Rattle.discover.specs.Discover.{lengthSaid, reachesPhy, shown, byteAt, description, discoverReply}
 use Rattle.rules.specs.Rules.{smpReply, lengthField}
 use Rattle.rack.specs.Rack.{rack, flat, rackTable}
 use Rattle.small.specs.Cases.{Cases, allOn, asks, fresh, opens, changes}
 
 pub cases : Cases
-unfolding bigEndian addressAt outsideGroup bit setBit tab member bitsOf setByte setOf tally physIn apply rowOrders batchOrders rowsEnd place P reaches shownByte shownRows setP setBoth startByte startTable outcome physSized routesSized arrivalChecks readySet emptySet zoned firstRefusal openSource judge byte20 sent sameBytes zeroBytes findPhy findRoute search samePort some permitted permittedInPort told toldSet frameByte frameOf typedLength smpSource right replied sound allSound configured phyZoneReply operationChecks ordersOf permissionReply rowCount rows reportReply smpReply lengthField rack flat rackTable allOn asks fresh opens changes
+unfolding bigEndian addressAt outsideGroup bit setBit tab member bitsOf setByte setOf tally physIn apply rowOrders batchOrders rowsEnd place P reaches shownByte shownRows setP setBoth startByte startTable outcome physSized routesSized arrivalChecks readySet emptySet zoned firstRefusal openSource judge byte20 sent sameBytes zeroBytes findPhy findRoute search samePort some permitted permittedInPort told toldSet frameByte frameOf typedLength smpSource right replied sound allSound configured phyZoneReply operationChecks ordersOf permissionReply rowCount rows reportReply lengthSaid reachesPhy shown byteAt description discoverReply smpReply lengthField rack flat rackTable allOn asks fresh opens changes
 cases = (
   refl,
   refl,
@@ -54,4 +55,8 @@ cases = (
   refl,
   refl,
   refl,
+  (refl, refl),
+  refl,
+  (refl, refl),
+  (refl, refl),
 )

@@ -1,4 +1,4 @@
--- Request 09's sentences, as rows of a single statement about the definitions at w = 1: on the bench rack, whose phys 0 to 7 are in the groups
+-- Request 09's sentences, and DISCOVER on this shelf, as rows of a single statement about the definitions at w = 1: on the bench rack, whose phys 0 to 7 are in the groups
 -- 1, 2, 8, 8, 9, 9, 0 and 1, with a permission table of 8 bytes.
 use mathlib.Core.Path.{_≡_}
 use mathlib.Core.List.{List, [], _∷_, _++_}
@@ -19,7 +19,7 @@ allOn = replicate 8 255
 
 -- an SMP request from a phy of the rack
 unfoldable pub asks : List ℕ → ℕ → List ℕ → Out
-asks t phy request = smpOut 1 rackTable t phy 0 request (replicate 1020 0) (replicate 16 0)
+asks t phy request = smpOut 1 rackTable t phy 0 (record { expander = 0; phy = 0 }) request (replicate 1020 0) (replicate 16 0)
 
 -- from phy 0, in group 1, after start-up
 unfoldable pub fresh : List ℕ → Out
@@ -49,6 +49,10 @@ report start k = 0x40 ∷ 0x51 ∷ 0 ∷ 1 ∷ 0 ∷ 0 ∷ start ∷ k ∷ []
 -- one descriptor for the phy `start`
 abbrev pub phyZone : ℕ → ℕ → List ℕ
 phyZone start group = 0x40 ∷ 0x93 ∷ 0 ∷ 2 ∷ 0 ∷ 0 ∷ start ∷ 1 ∷ 0 ∷ group ∷ 0 ∷ 0 ∷ []
+
+-- a DISCOVER with the ignore bit zero
+abbrev pub discover : ℕ → List ℕ
+discover phy = 0x40 ∷ 0x10 ∷ 0 ∷ 2 ∷ 0 ∷ 0 ∷ 0 ∷ 0 ∷ 0 ∷ phy ∷ 0 ∷ 0 ∷ []
 
 -- a row of document 01's sixteen bytes, of which the last is x
 abbrev pub rowOf : ℕ → List ℕ
@@ -90,3 +94,10 @@ Cases =
     × (answerOf (fresh (report 0 3)) ≡ answer (0x00 ∷ 60 ∷ 0 ∷ []))
     × (take 48 (drop 12 (bufferOf 2 (fresh (report 0 3)))) ≡ rowOf 2 ++ replicate 16 255 ++ rowOf 2)
     × (take 32 (drop 12 (bufferOf 2 (asks allOn 0 (report 7 2)))) ≡ rowOf 255 ++ rowOf 2)
+    -- DISCOVER asks this shelf's P: where every group reaches every group, of a phy in group 9 from group 8 and from group 2, of a phy in group 8
+    -- from its own group, all hidden; from group 1 shown, and of a phy in group 1 from group 8
+    × ((answerOf (asks allOn 2 (discover 4)) ≡ answer (0x16 ∷ 4 ∷ 0 ∷ [])) × (answerOf (asks allOn 1 (discover 4)) ≡ answer (0x16 ∷ 4 ∷ 0 ∷ [])))
+    × (answerOf (asks allOn 2 (discover 3)) ≡ answer (0x16 ∷ 4 ∷ 0 ∷ []))
+    × ((answerOf (asks allOn 0 (discover 4)) ≡ answer (0x00 ∷ 108 ∷ 0 ∷ [])) × (answerOf (asks allOn 2 (discover 0)) ≡ answer (0x00 ∷ 108 ∷ 0 ∷ [])))
+    -- and of a phy in group 2 from its own group, after start-up hidden and here shown
+    × ((answerOf (asks (startTable 1) 1 (discover 1)) ≡ answer (0x16 ∷ 4 ∷ 0 ∷ [])) × (answerOf (asks allOn 1 (discover 1)) ≡ answer (0x00 ∷ 108 ∷ 0 ∷ [])))

@@ -1,6 +1,7 @@
 // The small shelf: groups 0 to 7, a permission table of 8 bytes. Every public call of the profile, in one place. The calls that are lent the
 // permission table are document 01's at a row width of one byte; the others are document 01's own. What is promised of them is promised for
 // every row width, in shelf/specs/Promises.antt; specs/Promises.antt says it in this shelf's numbers.
+use discover::Changes;
 use wire::PhyNumber;
 ghost use mathlib.Core.Path.{_≡_};
 ghost use mathlib.Core.List.{[], _∷_};
@@ -79,11 +80,12 @@ pub fn smp(
     permissions: &mut [u8],
     phy: PhyNumber,
     carried: u8,
+    changes: Changes,
     request: &[u8],
     response: &mut [u8],
     set: &mut [u8],
 ) -> Answered
-    ensures { λ r. ⌜ out (answeredAs r) (now (phys .exit) ∷ now (permissions .exit) ∷ now (response .exit) ∷ now (set .exit) ∷ []) ≡ smpOut 1 (now (phys .entry)) (now (permissions .entry)) (phy .0) carried (now (request .entry)) (now (response .entry)) (now (set .entry)) ⌝ }
+    ensures { λ r. ⌜ out (answeredAs r) (now (phys .exit) ∷ now (permissions .exit) ∷ now (response .exit) ∷ now (set .exit) ∷ []) ≡ smpOut 1 (now (phys .entry)) (now (permissions .entry)) (phy .0) carried changes (now (request .entry)) (now (response .entry)) (now (set .entry)) ⌝ }
 {
     smp::smp_at(
         WIDTH,
@@ -91,6 +93,7 @@ pub fn smp(
         permissions,
         phy,
         carried,
+        changes,
         request,
         response,
         set,

@@ -9,7 +9,7 @@ ghost use Rattle.links.specs.Links.{startUpOut, leavingOut};
 ghost use Rattle.election.specs.Election.{electOut};
 ghost use Rattle.opens.specs.Open.{openOut};
 ghost use Rattle.broadcasts.specs.Broadcasts.{primitiveOut, broadcastOut};
-ghost use Rattle.boundary.specs.C.{given, inC, electedFields, openedFields, toldFields, answeredFields, identifyOutC, smpOutC};
+ghost use Rattle.boundary.specs.C.{given, inC, electedFields, openedFields, toldFields, answeredFields, identifyOutC, counted, smpOutC};
 
 #[no_mangle]
 pub extern "C" fn small_start_up(permissions: &mut [u8]) -> u32
@@ -26,10 +26,16 @@ pub extern "C" fn small_leaving(phys: &mut [u8], phy: u32) -> u32
 }
 
 #[no_mangle]
-pub extern "C" fn small_identify(phys: &mut [u8], phy: u32, address: &[u8]) -> u32
-    ensures { λ r. ⌜ given (r ∷ []) (now (phys .exit) ∷ []) ≡ inC 0 (identifyOutC (now (phys .entry)) phy (now (address .entry))) ⌝ }
+pub extern "C" fn small_identify(
+    phys: &mut [u8],
+    phy: u32,
+    address: &[u8],
+    device: u32,
+    attached: u32,
+) -> u32
+    ensures { λ r. ⌜ given (r ∷ []) (now (phys .exit) ∷ []) ≡ inC 0 (identifyOutC (now (phys .entry)) phy (now (address .entry)) device attached) ⌝ }
 {
-    boundary::identify_c(phys, phy, address)
+    boundary::identify_c(phys, phy, address, device, attached)
 }
 
 #[no_mangle]
@@ -87,11 +93,24 @@ pub extern "C" fn small_smp(
     permissions: &mut [u8],
     phy: u32,
     carried: u32,
+    expander: u32,
+    count: u32,
     request: &[u8],
     response: &mut [u8],
     set: &mut [u8],
 ) -> AnsweredC
-    ensures { λ r. ⌜ given (answeredFields r) (now (phys .exit) ∷ now (permissions .exit) ∷ now (response .exit) ∷ now (set .exit) ∷ []) ≡ inC 3 (smpOutC 1 (now (phys .entry)) (now (permissions .entry)) phy carried (now (request .entry)) (now (response .entry)) (now (set .entry))) ⌝ }
+    ensures { λ r. ⌜ given (answeredFields r) (now (phys .exit) ∷ now (permissions .exit) ∷ now (response .exit) ∷ now (set .exit) ∷ []) ≡ inC 3 (smpOutC 1 (now (phys .entry)) (now (permissions .entry)) phy carried (counted expander count) (now (request .entry)) (now (response .entry)) (now (set .entry))) ⌝ }
 {
-    boundary::smp_c(1, phys, permissions, phy, carried, request, response, set)
+    boundary::smp_c(
+        1,
+        phys,
+        permissions,
+        phy,
+        carried,
+        expander,
+        count,
+        request,
+        response,
+        set,
+    )
 }

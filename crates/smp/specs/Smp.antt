@@ -13,6 +13,7 @@ use Rattle.tables.specs.Outcome.{Answer, refusal, answer, Out, outcome}
 use Rattle.tables.specs.Arrival.{arrivalChecks}
 use Rattle.requests.specs.Requests.{smpSource, Reply, responseOf}
 use Rattle.zone_permission.specs.ZonePermission.{ordersOf}
+use Rattle.discover.specs.declared.Changes.{Changes}
 use Rattle.rules.specs.Rules.{functionOf, smpReply, lengthField}
 use Rattle.smp.specs.declared.Answered.{Answered}
 use Rattle.smp.specs.declared.Answered.the-variants.{Refused, Replied}
@@ -36,10 +37,10 @@ requestChecks phys phy carried request =
     ∷ []
 
 -- refusals 1, 2, 3, 7, then 4 and 5, and 8
-abbrev pub smpChecks : ℕ → List ℕ → List ℕ → ℕ → ℕ → List ℕ → Bool → List Check
-smpChecks w phys permissions phy carried request room =
+abbrev pub smpChecks : ℕ → List ℕ → List ℕ → ℕ → ℕ → Changes → List ℕ → Bool → List Check
+smpChecks w phys permissions phy carried changes request room =
     arrivalChecks phys phy (permissionsSized w permissions) room true
-    ++ (requestChecks phys phy carried request ++ refuse 8 (below 255 (lengthField w phys permissions phy carried request)) ∷ [])
+    ++ (requestChecks phys phy carried request ++ refuse 8 (below 255 (lengthField w phys permissions phy carried changes request)) ∷ [])
 
 -- what a reply leaves of the call: its values, and the buffers: phy table, permission table, response, phy set
 abbrev pub valuesOf : Reply → List ℕ
@@ -49,17 +50,17 @@ abbrev pub buffersOf : ℕ → Reply → List ℕ → List ℕ → List (List �
 buffersOf function p response set =
     p .phys ∷ p .permissions ∷ (responseOf function p ++ drop (4 + length (p .rest)) response) ∷ (p .set ++ drop 16 set) ∷ []
 
-abbrev pub smpOut : ℕ → List ℕ → List ℕ → ℕ → ℕ → List ℕ → List ℕ → List ℕ → Out
-smpOut w phys permissions phy carried request response set =
-    outcome (firstRefusal (smpChecks w phys permissions phy carried request (roomFor response set)))
-    (valuesOf (smpReply w phys permissions phy carried request))
+abbrev pub smpOut : ℕ → List ℕ → List ℕ → ℕ → ℕ → Changes → List ℕ → List ℕ → List ℕ → Out
+smpOut w phys permissions phy carried changes request response set =
+    outcome (firstRefusal (smpChecks w phys permissions phy carried changes request (roomFor response set)))
+    (valuesOf (smpReply w phys permissions phy carried changes request))
     (phys ∷ permissions ∷ response ∷ set ∷ [])
-    (buffersOf (functionOf request) (smpReply w phys permissions phy carried request) response set)
+    (buffersOf (functionOf request) (smpReply w phys permissions phy carried changes request) response set)
 
 -- the orders that a request's call accepted: none unless it was answered 00h with C1h
-unfoldable pub acceptedOrders : ℕ → List ℕ → List ℕ → ℕ → ℕ → List ℕ → Bool → List Order
-acceptedOrders w phys permissions phy carried request room =
-    cond (eqb (firstRefusal (smpChecks w phys permissions phy carried request room)) 0
-    && (eqb (functionOf request) 0xc1 && eqb ((smpReply w phys permissions phy carried request) .result) 0x00))
+unfoldable pub acceptedOrders : ℕ → List ℕ → List ℕ → ℕ → ℕ → Changes → List ℕ → Bool → List Order
+acceptedOrders w phys permissions phy carried changes request room =
+    cond (eqb (firstRefusal (smpChecks w phys permissions phy carried changes request room)) 0
+    && (eqb (functionOf request) 0xc1 && eqb ((smpReply w phys permissions phy carried changes request) .result) 0x00))
     (ordersOf w request)
     []

@@ -1,4 +1,5 @@
 // SMP requests: what is refused, and the call.
+use discover::Changes;
 use tables::READY;
 use wire::OutsideGroup;
 use wire::PhyNumber;
@@ -15,6 +16,7 @@ pub enum Answered {
     Replied(u8, u16, u8),
 }
 
+// The refusals of a request, whatever the change counts are.
 pub fn smp_refusal(
     width: usize,
     phys: &[u8],
@@ -25,7 +27,7 @@ pub fn smp_refusal(
     room: bool,
 ) -> u8
     requires { ⌜ Width width ⌝ }
-    ensures { λ r. ⌜ r ≡ firstRefusal (smpChecks width (now (phys .entry)) (now (permissions .entry)) (phy .0) carried (now (request .entry)) room) ⌝ }
+    ensures { λ r. ⌜ ((changes : Changes) → r ≡ firstRefusal (smpChecks width (now (phys .entry)) (now (permissions .entry)) (phy .0) carried changes (now (request .entry)) room)) ⌝ }
 {
     let sizes = permit::permissions_sized(width, permissions);
     let no = tables::arrival_refusal(phys, phy, sizes, room, READY);
@@ -41,25 +43,27 @@ pub fn smp_refusal(
     let OutsideGroup::Group(_) = requests::smp_source(phys, phy, carried) else {
         return 5;
     };
-    if 255 < rules::length_field(width, phys, permissions, phy, carried, request) {
+    if rules::too_long(width, phys, permissions, phy, carried, request) {
         return 8;
     }
     0
 }
 
-// An SMP request arrives; `carried` is the group of the connection's OPEN, its byte 20 with bit 7 taken off.
+// An SMP request arrives; `carried` is the group of the connection's OPEN, its byte 20 with bit 7 taken off, and `changes` what the caller
+// counted.
 pub fn smp_at(
     width: usize,
     phys: &mut [u8],
     permissions: &mut [u8],
     phy: PhyNumber,
     carried: u8,
+    changes: Changes,
     request: &[u8],
     response: &mut [u8],
     set: &mut [u8],
 ) -> Answered
     requires { ⌜ Width width ⌝ }
-    ensures { λ r. ⌜ out (answeredAs r) (now (phys .exit) ∷ now (permissions .exit) ∷ now (response .exit) ∷ now (set .exit) ∷ []) ≡ smpOut width (now (phys .entry)) (now (permissions .entry)) (phy .0) carried (now (request .entry)) (now (response .entry)) (now (set .entry)) ⌝ }
+    ensures { λ r. ⌜ out (answeredAs r) (now (phys .exit) ∷ now (permissions .exit) ∷ now (response .exit) ∷ now (set .exit) ∷ []) ≡ smpOut width (now (phys .entry)) (now (permissions .entry)) (phy .0) carried changes (now (request .entry)) (now (response .entry)) (now (set .entry)) ⌝ }
 {
     let room = (1020 <= response.len()) & (16 <= set.len());
     let no = smp_refusal(width, phys, permissions, phy, carried, request, room);
@@ -72,6 +76,7 @@ pub fn smp_at(
         permissions,
         phy,
         carried,
+        changes,
         request,
         response,
         set,
@@ -85,11 +90,22 @@ pub fn smp(
     permissions: &mut [u8],
     phy: PhyNumber,
     carried: u8,
+    changes: Changes,
     request: &[u8],
     response: &mut [u8],
     set: &mut [u8],
 ) -> Answered
-    ensures { λ r. ⌜ out (answeredAs r) (now (phys .exit) ∷ now (permissions .exit) ∷ now (response .exit) ∷ now (set .exit) ∷ []) ≡ smpOut 16 (now (phys .entry)) (now (permissions .entry)) (phy .0) carried (now (request .entry)) (now (response .entry)) (now (set .entry)) ⌝ }
+    ensures { λ r. ⌜ out (answeredAs r) (now (phys .exit) ∷ now (permissions .exit) ∷ now (response .exit) ∷ now (set .exit) ∷ []) ≡ smpOut 16 (now (phys .entry)) (now (permissions .entry)) (phy .0) carried changes (now (request .entry)) (now (response .entry)) (now (set .entry)) ⌝ }
 {
-    smp_at(16, phys, permissions, phy, carried, request, response, set)
+    smp_at(
+        16,
+        phys,
+        permissions,
+        phy,
+        carried,
+        changes,
+        request,
+        response,
+        set,
+    )
 }

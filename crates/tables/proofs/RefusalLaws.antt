@@ -79,6 +79,12 @@ held-above e h = rw (← e) h
 pub held-atMost : {a x v : ℕ} → x ≡ v → x ≤ a → v ≤ a
 held-atMost e h = rw (← e) h
 
+pub held-atLeast : {a x v : ℕ} → x ≡ v → a ≤ x → a ≤ v
+held-atLeast e h = rw (← e) h
+
+pub held-below : {a x v : ℕ} → x ≡ v → x < a → v < a
+held-below e h = rw (← e) h
+
 -- the answer to each return of a function that computes the number: `search rows depth 16`
 pub ruleset rows = (first, here, next, none, agrees, agrees-not)
 

@@ -1,4 +1,4 @@
--- "Phy table: 1 to 128 records of 12 bytes." Reserved bits are ignored when read and written as zero.
+-- "Phy table: 1 to 128 records"; document 02, request 03: "The phy record grows to 16 bytes". Reserved bits are ignored when read and written as zero.
 use mathlib.Core.Bool.{Bool, _&&_}
 use mathlib.Core.List.{List}
 use Prim.Native.Nat.{ℕ, _+_, _*_, _/_, _%_}
@@ -10,7 +10,7 @@ use Rattle.wire.specs.PhySet.{setOf}
 
 -- the bytes of a record
 abbrev pub phyRecord : ℕ
-phyRecord = 12
+phyRecord = 16
 
 abbrev pub phyCount : List ℕ → ℕ
 phyCount phys = length phys / phyRecord
@@ -44,6 +44,13 @@ known phys i = eqb (phyByte phys i 2 / 2 % 2) 1
 -- "Bytes 4-11: attached SAS address, big-endian."
 abbrev pub phyAddress : List ℕ → ℕ → ℕ
 phyAddress phys i = addressAt phys (phyRecord * i + 4)
+
+-- document 02, request 03: "12 device type, 13 attached phy, 14 and 15 zero"; "(the type's low 3 bits)"
+abbrev pub deviceType : List ℕ → ℕ → ℕ
+deviceType phys i = phyByte phys i 12 % 8
+
+abbrev pub attachedPhy : List ℕ → ℕ → ℕ
+attachedPhy phys i = phyByte phys i 13
 
 -- "all ready phys"
 unfoldable pub readySet : List ℕ → List ℕ

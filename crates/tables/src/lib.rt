@@ -7,14 +7,14 @@ ghost use mathlib.Core.List.{_++_};
 ghost use Prim.Native.Nat.{_+_, _*_, _%_, _<_, _≤_};
 ghost use lib.ListN.{length, drop};
 ghost use Rattle.wire.specs.PhySet.{setByte};
-ghost use Rattle.tables.specs.Phys.{phyRecord, phyCount, participating, phyPriority, phyGroup, phyAddress, ready, known, readySet, emptySet, zoned, physSized};
+ghost use Rattle.tables.specs.Phys.{phyRecord, phyCount, participating, phyPriority, phyGroup, phyAddress, deviceType, attachedPhy, ready, known, readySet, emptySet, zoned, physSized};
 ghost use Rattle.tables.specs.Ports.{samePort};
 ghost use Rattle.tables.specs.Routes.{routeCount, routeAddress, routePhy, routeGroup, routePriority, routesSized};
 ghost use Rattle.tables.specs.Refusals.{firstRefusal};
 ghost use Rattle.tables.specs.Arrival.{arrivalChecks};
 
 // The bytes of a phy record, and of a route record.
-pub const PHY_RECORD: usize = 12;
+pub const PHY_RECORD: usize = 16;
 
 pub const ROUTE_RECORD: usize = 12;
 
@@ -83,6 +83,23 @@ pub fn phy_address(phys: &[u8], phy: PhyNumber) -> u64
 {
     let i = phy.0 as usize;
     wire::address_at(phys, PHY_RECORD * i + 4)
+}
+
+// What IDENTIFY told of the attached device: its type, and which of its phys is attached.
+pub fn device_type(phys: &[u8], phy: PhyNumber) -> u8
+    requires { ⌜ phy .0 < phyCount (now phys) ⌝ }
+    ensures { λ r. ⌜ r ≡ deviceType (now (phys .entry)) (phy .0) ⌝ }
+{
+    let i = phy.0 as usize;
+    phys[PHY_RECORD * i + 12] % 8
+}
+
+pub fn attached_phy(phys: &[u8], phy: PhyNumber) -> u8
+    requires { ⌜ phy .0 < phyCount (now phys) ⌝ }
+    ensures { λ r. ⌜ r ≡ attachedPhy (now (phys .entry)) (phy .0) ⌝ }
+{
+    let i = phy.0 as usize;
+    phys[PHY_RECORD * i + 13]
 }
 
 // Whether two phys are in one port. A phy is in its own port even where it has no address, or is not ready.

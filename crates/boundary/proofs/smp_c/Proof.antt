@@ -1,14 +1,15 @@
 -- `boundary::smp_c` meets its contract.
 -- Assumes nothing.
-use Prim.Native.Nat.{_<_}
-use native.Mathlib.Omega.{arith}
-use Rattle.boundary.proofs.CLaws.{smp-wide, smp-byte}
+use Rattle.boundary.proofs.CLaws.{count-fits, smp-wide, smp-fits}
 use borrow.Author.Needs.{needs}
 use Rattle.boundary.proofs.smp_c.Statement.{statement}
 use Rattle.boundary.proofs.smp_c.Tie as tie
 
 phy-of-requires : tie.Need-phy-of-requires
 phy-of-requires c κs = search needs
+
+all-fit-requires : tie.Need-all-fit-requires
+all-fit-requires c κs = search needs
 
 smp-refusal-requires : tie.Need-smp-refusal-requires
 smp-refusal-requires c κs = search needs
@@ -26,10 +27,16 @@ same-length-2 : tie.Need-same-length-2
 same-length-2 c = search needs
 
 returns : tie.Need-returns
-returns c = let h : 255 < c .before .before .before .before .before .before .before .before .before .before .before .before .args .carried = omega arith in search smp-wide
+returns c = search smp-wide
 
-cast-smp-at : tie.Need-cast-smp-at
-cast-smp-at c = search needs
+cast-t27 : tie.Need-cast-t27
+cast-t27 c = search count-fits
+
+byte-of-requires : tie.Need-byte-of-requires
+byte-of-requires c κs = search needs
+
+byte-of-requires-2 : tie.Need-byte-of-requires-2
+byte-of-requires-2 c κs = search needs
 
 smp-at-requires : tie.Need-smp-at-requires
 smp-at-requires c κs = search needs
@@ -50,20 +57,23 @@ same-length-6 : tie.Need-same-length-6
 same-length-6 c = search needs
 
 returns-2 : tie.Need-returns-2
-returns-2 c = search smp-byte
+returns-2 c = search smp-fits
 
 pub smp-c-spec : {M : Type 1} → statement M
 smp-c-spec =
     tie.close
     (tie.spec
     phy-of-requires
+    all-fit-requires
     smp-refusal-requires
     or-else-requires
     answered-c-requires
     same-length
     same-length-2
     returns
-    cast-smp-at
+    cast-t27
+    byte-of-requires
+    byte-of-requires-2
     smp-at-requires
     answered-c-requires-2
     same-length-3

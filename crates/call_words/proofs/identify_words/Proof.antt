@@ -1,10 +1,7 @@
 -- `call_words::identify_words` meets its contract.
 -- Assumes nothing.
-use mathlib.Core.Path.{ap, _∙_}
-use Rattle.links.specs.Links.{linkedAs, identifyOut}
 use Rattle.call_words.specs.Gives.{identifyGives}
-use Rattle.call_words.proofs.SaidLaws.{gave-link, wrong-length, right-length}
-use native.Mathlib.Omega.{arith}
+use Rattle.call_words.proofs.SaidLaws.{of-payload, gave-link, wrong-length, right-length}
 use borrow.Author.Needs.{needs}
 use Rattle.call_words.proofs.identify_words.Statement.{statement}
 use Rattle.call_words.proofs.identify_words.Tie as tie
@@ -24,17 +21,8 @@ eight-requires c κs = search needs
 identify-requires : tie.Need-identify-requires
 identify-requires c κs = search needs
 
-enum-known-linked : tie.Need-enum-known-linked
-enum-known-linked c = search needs
-
-put-count-requires : tie.Need-put-count-requires
-put-count-requires c κs = search needs
-
-enum-told : tie.Need-enum-told
-enum-told c = search needs
-
-put-byte-requires-2 : tie.Need-put-byte-requires-2
-put-byte-requires-2 c κs = search needs
+linked-words-requires : tie.Need-linked-words-requires
+linked-words-requires c κs = search needs
 
 same-length-2 : tie.Need-same-length-2
 same-length-2 c = search needs
@@ -45,20 +33,8 @@ same-length-3 c = search needs
 returns-2 : tie.Need-returns-2
 unfolding identifyGives
 returns-2 c = λ permissions.
-    right-length _ _ _ _ _ _ permissions _ _ _ (c .before .before .before .before .before .before .before .before .before .before .before .before .before .if1 .left)
-    (gave-link linkedAs _ _ _ _ _ _ _ _ permissions (c .before .before .before .before .before .linked .given .1) (c .before .before .before .before .before .before .before .before .before .identify .ensures ∙ ap (identifyOut (c .before .before .before .before .before .before .before .before .before .before .before .before .before .before .before .before .before .args .phys .now) (c .before .before .before .before .before .before .before .before .before .before .before .before .before .before .before .before .before .args .phy .0)) (c .before .before .before .before .before .before .before .before .before .before .before .before .eight .ensures)) (c .before .before .put-count .ensures .0) (omega arith))
-
-same-length-4 : tie.Need-same-length-4
-same-length-4 c = search needs
-
-same-length-5 : tie.Need-same-length-5
-same-length-5 c = search needs
-
-returns-3 : tie.Need-returns-3
-unfolding identifyGives
-returns-3 c = λ permissions.
-    right-length _ _ _ _ _ _ permissions _ _ _ (c .before .before .before .before .before .before .before .before .before .before .before .before .if1 .left)
-    (gave-link linkedAs _ _ _ _ _ _ _ _ permissions (c .before .before .before .before .enum-told .given .1) (c .before .before .before .before .before .before .before .before .identify .ensures ∙ ap (identifyOut (c .before .before .before .before .before .before .before .before .before .before .before .before .before .before .before .before .args .phys .now) (c .before .before .before .before .before .before .before .before .before .before .before .before .before .before .before .before .args .phy .0)) (c .before .before .before .before .before .before .before .before .before .before .before .eight .ensures)) (c .before .before .put-byte2 .ensures) (omega arith))
+    right-length _ _ _ _ _ _ permissions _ _ _ (c .before .before .before .before .before .before .before .before .before .before .if1 .left)
+    (gave-link _ _ _ _ _ _ _ permissions (of-payload _ _ _ _ _ _ _ (c .before .before .before .before .before .before .identify .ensures) (c .before .before .before .before .before .before .before .before .before .eight .ensures)) (c .before .before .linked-words .ensures .0) (c .before .before .linked-words .ensures .1))
 
 pub identify-words-spec : {M : Type 1} → statement M
 identify-words-spec =
@@ -69,13 +45,7 @@ identify-words-spec =
     returns
     eight-requires
     identify-requires
-    enum-known-linked
-    put-count-requires
-    enum-told
-    put-byte-requires-2
+    linked-words-requires
     same-length-2
     same-length-3
-    returns-2
-    same-length-4
-    same-length-5
-    returns-3)
+    returns-2)

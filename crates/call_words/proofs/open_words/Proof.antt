@@ -3,7 +3,7 @@
 use Rattle.opens.specs.Open.{openedAs}
 use Rattle.lines.specs.Words.{outcomeWords}
 use Rattle.call_words.specs.Gives.{openGives}
-use Rattle.call_words.proofs.SaidLaws.{gave}
+use Rattle.call_words.proofs.SaidLaws.{said-of, gave}
 use native.Mathlib.Omega.{arith}
 use borrow.Author.Needs.{needs}
 use Rattle.call_words.proofs.open_words.Statement.{statement}
@@ -62,35 +62,35 @@ same-length c = search needs
 
 returns : tie.Need-returns
 unfolding openGives
-returns c = gave openedAs _ _ _ _ _ _ _ outcomeWords _ _ _ (c .before .before .before .before .before .opened .given .1) (c .before .before .before .before .before .before .before .before .«open» .ensures) (c .before .before .put-count .ensures .0) (omega arith)
+returns c = gave _ _ _ _ _ _ outcomeWords _ _ _ (c .before .before .before .before .before .before .before .before .«open» .ensures) (said-of openedAs _ _ _ _ _ _ outcomeWords (c .before .before .before .before .before .opened .given .1) (c .before .before .put-count .ensures .0)) (omega arith)
 
 same-length-2 : tie.Need-same-length-2
 same-length-2 c = search needs
 
 returns-2 : tie.Need-returns-2
 unfolding openGives
-returns-2 c = gave openedAs _ _ _ _ _ _ _ outcomeWords _ _ _ (c .before .before .before .before .before .enum-told .given .1) (c .before .before .before .before .before .before .before .before .«open» .ensures) (c .before .before .put-bytes .ensures) (omega arith)
+returns-2 c = gave _ _ _ _ _ _ outcomeWords _ _ _ (c .before .before .before .before .before .before .before .before .«open» .ensures) (said-of openedAs _ _ _ _ _ _ outcomeWords (c .before .before .before .before .before .enum-told .given .1) (c .before .before .put-bytes .ensures)) (omega arith)
 
 same-length-3 : tie.Need-same-length-3
 same-length-3 c = search needs
 
 returns-3 : tie.Need-returns-3
 unfolding openGives
-returns-3 c = gave openedAs _ _ _ _ _ _ _ outcomeWords _ _ _ (c .before .before .before .before .before .enum-told2 .given .1) (c .before .before .before .before .before .before .before .before .«open» .ensures) (c .before .before .put-bytes2 .ensures) (omega arith)
+returns-3 c = gave _ _ _ _ _ _ outcomeWords _ _ _ (c .before .before .before .before .before .before .before .before .«open» .ensures) (said-of openedAs _ _ _ _ _ _ outcomeWords (c .before .before .before .before .before .enum-told2 .given .1) (c .before .before .put-bytes2 .ensures)) (omega arith)
 
 same-length-4 : tie.Need-same-length-4
 same-length-4 c = search needs
 
 returns-4 : tie.Need-returns-4
 unfolding openGives
-returns-4 c = gave openedAs _ _ _ _ _ _ _ outcomeWords _ _ _ (c .before .before .before .before .before .enum-told3 .given .1) (c .before .before .before .before .before .before .before .before .«open» .ensures) (c .before .before .put-bytes3 .ensures) (omega arith)
+returns-4 c = gave _ _ _ _ _ _ outcomeWords _ _ _ (c .before .before .before .before .before .before .before .before .«open» .ensures) (said-of openedAs _ _ _ _ _ _ outcomeWords (c .before .before .before .before .before .enum-told3 .given .1) (c .before .before .put-bytes3 .ensures)) (omega arith)
 
 same-length-5 : tie.Need-same-length-5
 same-length-5 c = search needs
 
 returns-5 : tie.Need-returns-5
 unfolding openGives
-returns-5 c = gave openedAs _ _ _ _ _ _ _ outcomeWords _ _ _ (c .before .before .before .before .before .opened2 .given .1) (c .before .before .before .before .before .before .before .before .«open» .ensures) (c .before .before .put-forward .ensures .0) (omega arith)
+returns-5 c = gave _ _ _ _ _ _ outcomeWords _ _ _ (c .before .before .before .before .before .before .before .before .«open» .ensures) (said-of openedAs _ _ _ _ _ _ outcomeWords (c .before .before .before .before .before .opened2 .given .1) (c .before .before .put-forward .ensures .0)) (omega arith)
 
 pub open-words-spec : {M : Type 1} → statement M
 open-words-spec =

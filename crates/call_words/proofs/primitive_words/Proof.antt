@@ -1,10 +1,8 @@
 -- `call_words::primitive_words` meets its contract.
 -- Assumes nothing.
-use Rattle.broadcasts.specs.Broadcasts.{toldAs}
 use Rattle.lines.specs.Words.{toldWords}
 use Rattle.call_words.specs.Gives.{primitiveGives}
 use Rattle.call_words.proofs.SaidLaws.{gave, wrong-length, right-length}
-use native.Mathlib.Omega.{arith}
 use borrow.Author.Needs.{needs}
 use Rattle.call_words.proofs.primitive_words.Statement.{statement}
 use Rattle.call_words.proofs.primitive_words.Tie as tie
@@ -30,17 +28,8 @@ slice-aggregate-primitive-2 c = search needs
 primitive-requires : tie.Need-primitive-requires
 primitive-requires c κs = search needs
 
-enum-known-told : tie.Need-enum-known-told
-enum-known-told c = search needs
-
-put-count-requires : tie.Need-put-count-requires
-put-count-requires c κs = search needs
-
-enum-known-told-2 : tie.Need-enum-known-told-2
-enum-known-told-2 c = search needs
-
-put-count-requires-2 : tie.Need-put-count-requires-2
-put-count-requires-2 c κs = search needs
+told-words-requires : tie.Need-told-words-requires
+told-words-requires c κs = search needs
 
 same-length-2 : tie.Need-same-length-2
 same-length-2 c = search needs
@@ -48,17 +37,8 @@ same-length-2 c = search needs
 returns-2 : tie.Need-returns-2
 unfolding primitiveGives
 returns-2 c =
-    right-length _ _ _ _ _ _ _ _ _ _ (c .before .before .before .before .before .before .before .before .before .before .before .before .before .if1 .left)
-    (gave toldAs _ _ _ _ _ _ _ toldWords _ _ _ (c .before .before .before .before .before .told .given .1) (c .before .before .before .before .before .before .before .before .before .primitive .ensures) (c .before .before .put-count .ensures .0) (omega arith))
-
-same-length-3 : tie.Need-same-length-3
-same-length-3 c = search needs
-
-returns-3 : tie.Need-returns-3
-unfolding primitiveGives
-returns-3 c =
-    right-length _ _ _ _ _ _ _ _ _ _ (c .before .before .before .before .before .before .before .before .before .before .before .before .before .if1 .left)
-    (gave toldAs _ _ _ _ _ _ _ toldWords _ _ _ (c .before .before .before .before .before .told2 .given .1) (c .before .before .before .before .before .before .before .before .before .primitive .ensures) (c .before .before .put-count2 .ensures .0) (omega arith))
+    right-length _ _ _ _ _ _ _ _ _ _ (c .before .before .before .before .before .before .before .before .before .before .if1 .left)
+    (gave _ _ _ _ _ _ toldWords _ _ _ (c .before .before .before .before .before .before .primitive .ensures) (c .before .before .told-words .ensures .0) (c .before .before .told-words .ensures .1))
 
 pub primitive-words-spec : {M : Type 1} → statement M
 primitive-words-spec =
@@ -71,11 +51,6 @@ primitive-words-spec =
     slice-aggregate-primitive
     slice-aggregate-primitive-2
     primitive-requires
-    enum-known-told
-    put-count-requires
-    enum-known-told-2
-    put-count-requires-2
+    told-words-requires
     same-length-2
-    returns-2
-    same-length-3
-    returns-3)
+    returns-2)

@@ -1,8 +1,9 @@
 -- `call_words::smp_words` meets its contract.
 -- Assumes nothing.
 use Rattle.smp.specs.Smp.{answeredAs}
+use Rattle.lines.specs.Words.{replyWords}
 use Rattle.call_words.specs.Gives.{smpGives}
-use Rattle.call_words.proofs.SaidLaws.{gave-smp}
+use Rattle.call_words.proofs.SaidLaws.{said-of, gave-smp}
 use native.Mathlib.Omega.{arith}
 use borrow.Author.Needs.{needs}
 use Rattle.call_words.proofs.smp_words.Statement.{statement}
@@ -40,7 +41,7 @@ same-length-3 c = search needs
 
 returns : tie.Need-returns
 unfolding smpGives
-returns c = gave-smp answeredAs _ _ _ _ _ _ _ _ _ _ _ (c .before .before .before .before .before .answered .given .1) (c .before .before .before .before .before .before .before .before .before .before .before .before .before .smp .ensures) (c .before .before .put-count .ensures .0) (omega arith)
+returns c = gave-smp _ _ _ _ _ _ _ _ _ _ (c .before .before .before .before .before .before .before .before .before .before .before .before .before .smp .ensures) (said-of answeredAs _ _ _ _ _ _ replyWords (c .before .before .before .before .before .answered .given .1) (c .before .before .put-count .ensures .0)) (omega arith)
 
 same-length-4 : tie.Need-same-length-4
 same-length-4 c = search needs
@@ -53,7 +54,7 @@ same-length-6 c = search needs
 
 returns-2 : tie.Need-returns-2
 unfolding smpGives
-returns-2 c = gave-smp answeredAs _ _ _ _ _ _ _ _ _ _ _ (c .before .before .before .before .before .answered2 .given .1) (c .before .before .before .before .before .before .before .before .before .before .before .before .before .smp .ensures) (c .before .before .put-reply .ensures .0) (omega arith)
+returns-2 c = gave-smp _ _ _ _ _ _ _ _ _ _ (c .before .before .before .before .before .before .before .before .before .before .before .before .before .smp .ensures) (said-of answeredAs _ _ _ _ _ _ replyWords (c .before .before .before .before .before .answered2 .given .1) (c .before .before .put-reply .ensures .0)) (omega arith)
 
 pub smp-words-spec : {M : Type 1} → statement M
 smp-words-spec =

@@ -1,7 +1,7 @@
 -- `links::attach` meets its contract.
 -- Assumes nothing.
 use lib.ListN.{length-set}
-use Rattle.links.proofs.LinkLaws.{attached, same-stored}
+use Rattle.links.proofs.LinkLaws.{stored-all, same-stored}
 use native.Mathlib.Omega.{arith}
 use borrow.Author.Needs.{needs}
 use Rattle.links.proofs.attach.Statement.{statement}
@@ -22,6 +22,24 @@ add-phys c = search needs
 slice-write-phys : tie.Need-slice-write-phys
 slice-write-phys c = search needs
 
+mul-phys-2 : tie.Need-mul-phys-2
+mul-phys-2 c = search needs
+
+add-phys-2 : tie.Need-add-phys-2
+add-phys-2 c = search needs
+
+slice-write-phys-2 : tie.Need-slice-write-phys-2
+slice-write-phys-2 c = simp length-set (omega arith)
+
+mul-phys-3 : tie.Need-mul-phys-3
+mul-phys-3 c = search needs
+
+add-phys-3 : tie.Need-add-phys-3
+add-phys-3 c = search needs
+
+slice-write-phys-3 : tie.Need-slice-write-phys-3
+slice-write-phys-3 c = simp length-set (omega arith)
+
 mul-copy : tie.Need-mul-copy
 mul-copy c = search needs
 
@@ -35,7 +53,7 @@ same-length : tie.Need-same-length
 same-length c = search same-stored
 
 returns : tie.Need-returns
-returns c = search attached
+returns c = search stored-all
 
 pub attach-spec : {M : Type 1} → statement M
 attach-spec =
@@ -46,6 +64,12 @@ attach-spec =
     mul-phys
     add-phys
     slice-write-phys
+    mul-phys-2
+    add-phys-2
+    slice-write-phys-2
+    mul-phys-3
+    add-phys-3
+    slice-write-phys-3
     mul-copy
     add-copy
     copy-requires

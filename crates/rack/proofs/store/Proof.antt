@@ -21,6 +21,13 @@ put-bytes-requires-2 : tie.Need-put-bytes-requires-2
 put-bytes-requires-2 c κs =
     let h : length (c .before .before .before .before .before .before .before .before .before .args .r .address) ≡ 8 = search needs in omega arith
 
+slice-aggregate-put-bytes-3 : tie.Need-slice-aggregate-put-bytes-3
+slice-aggregate-put-bytes-3 c = search needs
+
+put-bytes-requires-3 : tie.Need-put-bytes-requires-3
+put-bytes-requires-3 c κs =
+    let h : length (c .before .before .before .before .before .before .before .before .before .before .before .before .before .before .args .r .address) ≡ 8 = search needs in omega arith
+
 same-length : tie.Need-same-length
 same-length c = search needs
 
@@ -35,5 +42,7 @@ store-spec =
     put-bytes-requires
     slice-aggregate-put-bytes-2
     put-bytes-requires-2
+    slice-aggregate-put-bytes-3
+    put-bytes-requires-3
     same-length
     returns)

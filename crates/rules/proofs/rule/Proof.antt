@@ -1,6 +1,6 @@
 -- `rules::rule` meets its contract.
 -- Assumes nothing.
-use Rattle.rules.proofs.RuleLaws.{leaves-93, leaves-c1, leaves-51, leaves-none}
+use Rattle.rules.proofs.RuleLaws.{leaves-93, leaves-c1, leaves-51, leaves-10, leaves-none}
 use borrow.Author.Needs.{needs}
 use Rattle.rules.proofs.rule.Statement.{statement}
 use Rattle.rules.proofs.rule.Tie as tie
@@ -16,6 +16,9 @@ configure-zone-permission-requires c κs = search needs
 
 report-zone-permission-requires : tie.Need-report-zone-permission-requires
 report-zone-permission-requires c κs = search needs
+
+discover-requires : tie.Need-discover-requires
+discover-requires c κs = search needs
 
 unknown-function-requires : tie.Need-unknown-function-requires
 unknown-function-requires c κs = search needs
@@ -71,8 +74,23 @@ same-length-13 c = search needs
 same-length-14 : tie.Need-same-length-14
 same-length-14 c = search needs
 
+same-length-15 : tie.Need-same-length-15
+same-length-15 c = search needs
+
+same-length-16 : tie.Need-same-length-16
+same-length-16 c = search needs
+
 returns-4 : tie.Need-returns-4
-returns-4 c = search leaves-none
+returns-4 c = search leaves-10
+
+same-length-17 : tie.Need-same-length-17
+same-length-17 c = search needs
+
+same-length-18 : tie.Need-same-length-18
+same-length-18 c = search needs
+
+returns-5 : tie.Need-returns-5
+returns-5 c = search leaves-none
 
 pub rule-spec : {M : Type 1} → statement M
 rule-spec =
@@ -82,6 +100,7 @@ rule-spec =
     configure-phy-zone-requires
     configure-zone-permission-requires
     report-zone-permission-requires
+    discover-requires
     unknown-function-requires
     same-length
     same-length-2
@@ -100,4 +119,9 @@ rule-spec =
     returns-3
     same-length-13
     same-length-14
-    returns-4)
+    same-length-15
+    same-length-16
+    returns-4
+    same-length-17
+    same-length-18
+    returns-5)

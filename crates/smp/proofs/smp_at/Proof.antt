@@ -1,8 +1,7 @@
 -- `smp::smp_at` meets its contract.
 -- Assumes nothing.
-use Rattle.tables.proofs.OutcomeLaws.{refuses}
 use Rattle.rules.proofs.RuleLaws.{told-long}
-use Rattle.smp.proofs.SmpLaws.{smp-lent, smp-gives}
+use Rattle.smp.proofs.SmpLaws.{smp-refuses, smp-lent, smp-gives}
 use borrow.Author.Needs.{needs}
 use Rattle.smp.proofs.smp_at.Statement.{statement}
 use Rattle.smp.proofs.smp_at.Tie as tie
@@ -17,15 +16,15 @@ same-length-2 : tie.Need-same-length-2
 same-length-2 c = search needs
 
 returns : tie.Need-returns
-returns c = search refuses
+returns c = search smp-refuses
 
 rule-requires : tie.Need-rule-requires
 rule-requires c κs =
     let args = c .before .before .before .before .before .before .before .before .before .before .before .before .before .args in
-    smp-lent _ _ _ _ (args .carried) (args .request .now) (args .response .now) (args .set .now) _ (search needs) (c .before .before .before .before .before .smp-refusal .ensures) (c .before .before .before .before .if1 .left)
+    smp-lent _ _ _ _ (args .carried) (args .request .now) (args .response .now) (args .set .now) _ (c .before .before .before .before .before .smp-refusal .ensures) (search needs) (c .before .before .before .before .if1 .left)
 
 phys-in-requires : tie.Need-phys-in-requires
-phys-in-requires c κs = told-long _ _ _ _ _ _ _ _ _ _ _ _ _ _ (c .before .before .before .before .before .before .before .before .before .rule .ensures)
+phys-in-requires c κs = search told-long
 
 same-length-3 : tie.Need-same-length-3
 same-length-3 c = search needs

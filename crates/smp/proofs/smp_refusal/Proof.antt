@@ -1,8 +1,9 @@
 -- `smp::smp_refusal` meets its contract.
 -- Assumes nothing.
 use Rattle.wire.proofs.GroupLaws.{taken-group, taken-none}
-use Rattle.tables.proofs.RefusalLaws.{rows, held-above, held-atMost}
+use Rattle.tables.proofs.RefusalLaws.{rows}
 use Rattle.tables.proofs.ArrivalLaws.{arrival-there, arrival-front, arrival-back}
+use Rattle.rules.proofs.RuleLaws.{passes, stays-within}
 use Rattle.smp.proofs.SmpLaws.{smp-table}
 use native.Mathlib.Omega.{arith}
 use borrow.Author.Needs.{needs}
@@ -39,14 +40,14 @@ enum-told-2 c = search needs
 returns-4 : tie.Need-returns-4
 returns-4 c = search (arrival-back, rows, taken-none) depth 16
 
-length-field-requires : tie.Need-length-field-requires
-length-field-requires c κs = (search arrival-there, search smp-table, omega arith)
+too-long-requires : tie.Need-too-long-requires
+too-long-requires c κs = (search arrival-there, search smp-table, omega arith)
 
 returns-5 : tie.Need-returns-5
-returns-5 c = search (arrival-back, rows, taken-group, held-above) depth 16
+returns-5 c = λ changes. search (arrival-back, rows, taken-group, passes) depth 16
 
 returns-6 : tie.Need-returns-6
-returns-6 c = search (arrival-back, rows, taken-group, held-atMost) depth 16
+returns-6 c = λ changes. search (arrival-back, rows, taken-group, stays-within) depth 16
 
 pub smp-refusal-spec : {M : Type 1} → statement M
 smp-refusal-spec =
@@ -62,6 +63,6 @@ smp-refusal-spec =
     enum-told
     enum-told-2
     returns-4
-    length-field-requires
+    too-long-requires
     returns-5
     returns-6)

@@ -1,0 +1,2 @@
+pub mod Discover
+pub mod Inner

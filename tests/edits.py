@@ -2,6 +2,7 @@
 """What each must-fail edit was refused at. Reads the first error of every log that rt ci leaves, prints how many there are of each kind, and
 fails where an edit has no log, or was refused only because a proof no longer fits the code's shape: that shows nothing of what the edit gets
 wrong, since a right change of the same shape would be refused as well. A kind that is not listed here fails too: somebody has to look at it.
+An edit may get several functions wrong, each by itself: then every function whose code it changes must be refused, and not only the first.
 
 edits.py LOGS    LOGS has CRATE/EDIT/.log for each crates/CRATE/must-fail/EDIT.edit
 edits.py LOGS --all    prints each edit with its first error too"""
@@ -32,6 +33,23 @@ def first_error(log):
     return found and (found[1], found[2])
 
 
+def changed(edit, crate):
+    """The functions whose code, and not whose contract, an edit changes: one that meets a wrong contract is refused at its callers. The
+    changes are made one after the other, as rt makes them."""
+    sources, names, contracts, file = {}, set(), set(), ''
+    for named, old, new in re.findall(r'^(?:file: (.*)\n)?old: (.*)\nnew: (.*)', edit, re.M):
+        file = named or file
+        if not file.startswith('src/'):
+            continue
+        source = sources.get(file) or (crate / file).read_text()
+        before, _, behind = source.partition(old)
+        line = before.rpartition('\n')[2] + old
+        kept = contracts if re.match(r'\s*(requires|ensures)', line) else names
+        kept.update(re.findall(r'^(?:pub )?(?:extern "C" )?fn (\w+)', before, re.M)[-1:])
+        sources[file] = before + new + behind
+    return sorted(names - contracts)
+
+
 def kind(message):
     words = re.sub(r'`[^`]*`', lambda quoted: quoted[0] if quoted[0] in WORDS else '`..`', message)
     return next((name for name, pattern in KINDS if re.search(pattern, words)), UNKNOWN)
@@ -42,8 +60,12 @@ def read(crates, logs):
     for edit in sorted(crates.glob('*/must-fail/*.edit')):
         name = f'{edit.parts[-3]}/{edit.stem}'
         log = logs / name / '.log'
-        error = first_error(log.read_text(errors='replace')) if log.is_file() else None
-        if error:
+        said = log.read_text(errors='replace') if log.is_file() else ''
+        error = first_error(said)
+        proved = [f for f in changed(edit.read_text(), edit.parent.parent) if re.search(rf'^fn \w+::{f}: proved$', said, re.M)]
+        if error and proved:
+            yield name, 'a function that it changes is proved', ', '.join(proved)
+        elif error:
             place, message = error
             yield name, kind(message), f'{place.split(name + "/")[-1]}: ' + ' '.join(message.split())
         else:
@@ -67,18 +89,25 @@ def can_fail():
         'only_follows': '/p: error: `x`: `close` was not admitted, so\n',
         'other': '/p: error: `x`: something else\n',
         'silent': 'fn a: proved\n',
+        'one_of_two': '/p: error: `x`: `omega`: it fails\nfn c::f: proved\nfn c::g: not proved\n',
+        'both': '/p: error: `x`: `omega`: it fails\nfn c::f: not proved\nfn c::g: no proof\n',
+        'with_contract': '/p: error: `x`: `omega`: it fails\nfn c::f: proved\nfn c::g: not proved\n',
         'lost': None,
     }
     with tempfile.TemporaryDirectory() as work:
         crates, logs = pathlib.Path(work, 'crates'), pathlib.Path(work, 'logs')
         (crates / 'c/must-fail').mkdir(parents=True)
+        (crates / 'c/src').mkdir()
+        (crates / 'c/src/lib.rt').write_text('fn f()\n    ensures one\n{\n    return 1;\n}\n\npub extern "C" fn g() {\n    return 2;\n}\n')
         for name, log in samples.items():
-            (crates / f'c/must-fail/{name}.edit').touch()
+            two = 'file: src/lib.rt\nold: return 1\nnew: return 3\nfile: src/lib.rt\nold: return 2\nnew: return 3\n'
+            contract = 'file: src/lib.rt\nold: one\nnew: three\n' if name == 'with_contract' else ''
+            (crates / f'c/must-fail/{name}.edit').write_text(contract + two if name in ('one_of_two', 'both', 'with_contract') else '')
             if log is not None:
                 (logs / 'c' / name).mkdir(parents=True)
                 (logs / 'c' / name / '.log').write_text(log)
         named = [line.split(':')[0] for line in bad(read(crates, logs))]
-    if named != ['c/follows_shape', 'c/lost', 'c/no_field', 'c/no_need', 'c/only_follows', 'c/other', 'c/silent']:
+    if named != ['c/follows_shape', 'c/lost', 'c/no_field', 'c/no_need', 'c/one_of_two', 'c/only_follows', 'c/other', 'c/silent']:
         sys.exit(f'edits.py: of the made-up logs these are refused: {named}')
 
 

@@ -75,7 +75,7 @@ large 'a broadcast: none named where the lowest ready phy is not permitted' broa
     '\.filter(is_permitted)\.any(' '.any('
 large 'a broadcast: a phy that is not ready stands for its port' broadcast.rs \
     '\.filter(is_permitted)\.any(|lower| same_port(phys, lower, phy))' \
-    '.any(|lower| phys[lower][4..] == phys[phy][4..] \&\& phys[phy][4..] != [0; 8] \&\& (is_permitted(\&lower) || phys[lower][2] \& 1 == 0))'
+    '.any(|lower| phys[lower][4..12] == phys[phy][4..12] \&\& phys[phy][4..12] != [0; 8] \&\& (is_permitted(\&lower) || phys[lower][2] \& 1 == 0))'
 large 'a broadcast: all permitted phys of a port named' broadcast.rs '!has_lower(phy)' 'true'
 large "a broadcast: the arriving phy's port told" broadcast.rs '!same_port(phys, arriving, phy)' 'phy != arriving'
 large 'OPEN: forwarded to a sister' open.rs 'same_port(phys, place, found.phy)' 'place == found.phy'

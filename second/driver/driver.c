@@ -15,7 +15,7 @@
 #include <stdlib.h>
 #include <string.h>
 
-enum { SEND_ON = 255, NUMBERS = 2, BUFFERS = 5, FIELDS = 4, GUARD = 64, LARGEST = 1 << 17, STREAM = 1 << 18 };
+enum { SEND_ON = 255, NUMBERS = 4, BUFFERS = 5, FIELDS = 4, GUARD = 64, LARGEST = 1 << 17, STREAM = 1 << 18 };
 
 /* What a call takes: how many numbers and buffers, and which buffers are not const (bit i for buffer i). */
 struct shape {
@@ -26,12 +26,12 @@ struct shape {
 static const struct shape shapes[] = {
     {0, 1, 0x01}, /* start_up */
     {1, 1, 0x01}, /* leaving */
-    {1, 2, 0x01}, /* identify */
+    {3, 2, 0x01}, /* identify */
     {0, 2, 0x00}, /* elect */
     {1, 5, 0x10}, /* open */
     {2, 4, 0x0c}, /* primitive */
     {1, 5, 0x18}, /* broadcast_frame */
-    {2, 5, 0x1b}, /* smp */
+    {4, 5, 0x1b}, /* smp */
 };
 
 static uint32_t n[NUMBERS];
@@ -124,7 +124,7 @@ static void make_call(int which) {
     switch (which) {
     case 0: field[0] = NAMED(start_up)(b[0], len[0]); break;
     case 1: field[0] = NAMED(leaving)(b[0], len[0], n[0]); break;
-    case 2: field[0] = NAMED(identify)(b[0], len[0], n[0], b[1], len[1]); break;
+    case 2: field[0] = NAMED(identify)(b[0], len[0], n[0], b[1], len[1], n[1], n[2]); break;
     case 3: elected(NAMED(elect)(b[0], len[0], b[1], len[1])); break;
     case 4: opened(NAMED(open)(b[0], len[0], b[1], len[1], b[2], len[2], n[0], b[3], len[3], b[4], len[4])); break;
     case 5: told(NAMED(primitive)(b[0], len[0], b[1], len[1], n[0], n[1], b[2], len[2], b[3], len[3])); break;
@@ -132,7 +132,8 @@ static void make_call(int which) {
         told(NAMED(broadcast_frame)(b[0], len[0], b[1], len[1], n[0], b[2], len[2], b[3], len[3], b[4], len[4]));
         break;
     case 7:
-        answered(NAMED(smp)(b[0], len[0], b[1], len[1], n[0], n[1], b[2], len[2], b[3], len[3], b[4], len[4]));
+        answered(NAMED(smp)(b[0], len[0], b[1], len[1], n[0], n[1], n[2], n[3], b[2], len[2], b[3], len[3], b[4],
+                            len[4]));
         break;
     }
 }

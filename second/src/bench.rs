@@ -1,6 +1,7 @@
 //! Bench rack: the fixed table, and the text that the bench program prints for a stream of events.
 
 use crate::large::{broadcast_frame, identify, leaving, open, primitive, smp, start_up};
+use crate::tables::Record;
 use std::fmt::Write;
 
 pub const FIRST_LINE: &str = "rack 1";
@@ -14,6 +15,14 @@ pub const LEAVING: u8 = 6;
 
 /// Groups of phys 0 to 7.
 const GROUPS: [u8; 8] = [1, 2, 8, 8, 9, 9, 0, 1];
+
+/// What the bench hands in with every IDENTIFY: the type of a device that is no expander, and its phy.
+const DEVICE_TYPE: u32 = 1;
+const ATTACHED_PHY: u32 = 0;
+
+/// What it hands in with every SMP request.
+const EXPANDER_CHANGES: u32 = 0;
+const PHY_CHANGES: u32 = 0;
 
 /// The bench rack's tables. It has no routes.
 #[derive(Clone, Debug, PartialEq, Eq)]
@@ -30,13 +39,13 @@ impl Default for Rack {
     }
 }
 
-fn bench_phy(phy: u8) -> [u8; 12] {
+fn bench_phy(phy: u8) -> Record {
     let zoning = match phy {
         0 => 15,
         7 => 0x10,
         _ => 0,
     };
-    [zoning, GROUPS[usize::from(phy)], 0b11, 0, 0x50, 0, 0, 0, 0, 0, 0, 0x10 + phy]
+    [zoning, GROUPS[usize::from(phy)], 0b11, 0, 0x50, 0, 0, 0, 0, 0, 0, 0x10 + phy, 0, 0, 0, 0]
 }
 
 /// One event of the stream.
@@ -98,8 +107,17 @@ impl Rack {
 
     fn smp(&mut self, event: &Event, request: &[u8]) -> String {
         let (mut response, mut set) = ([0; 1020], [0; 16]);
-        let (phy, carried) = (event.phy.into(), event.carried.into());
-        let answer = smp(&mut self.phys, &mut self.permissions, phy, carried, request, &mut response, &mut set);
+        let answer = smp(
+            &mut self.phys,
+            &mut self.permissions,
+            event.phy.into(),
+            event.carried.into(),
+            EXPANDER_CHANGES,
+            PHY_CHANGES,
+            request,
+            &mut response,
+            &mut set,
+        );
         let line = format!("S {:02X} {} {}", answer.result, answer.length, answer.count);
         unless_refused(answer.refusal, line)
     }
@@ -129,7 +147,8 @@ impl Rack {
     }
 
     fn identify(&mut self, event: &Event, address: &[u8]) -> String {
-        unless_refused(identify(&mut self.phys, event.phy.into(), address), "L".to_string())
+        let refusal = identify(&mut self.phys, event.phy.into(), address, DEVICE_TYPE, ATTACHED_PHY);
+        unless_refused(refusal, "L".to_string())
     }
 
     fn leaving(&mut self, event: &Event) -> String {

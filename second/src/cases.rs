@@ -2,6 +2,7 @@
 
 use crate::bench::{self, Event, Rack};
 use crate::large::{broadcast_frame, elect, identify, leaving, open, primitive, smp};
+use crate::tables::RECORD;
 use crate::{Answered, Elected, Opened, Told};
 
 mod outside;
@@ -21,7 +22,7 @@ struct Exchange {
 
 fn ask(rack: &mut Rack, phy: u32, carried: u32, request: &[u8]) -> Exchange {
     let (mut response, mut set) = ([STAYS; 1024], [STAYS; 20]);
-    let answer = smp(&mut rack.phys, &mut rack.permissions, phy, carried, request, &mut response, &mut set);
+    let answer = smp(&mut rack.phys, &mut rack.permissions, phy, carried, 0, 0, request, &mut response, &mut set);
     Exchange { answer, response, set }
 }
 
@@ -141,7 +142,7 @@ fn case_6_descriptors_up_to_the_last_phy() {
     let Exchange { answer, set, .. } = ask(&mut rack, 0, 0, &request);
     assert_eq!(answer, Answered { refusal: 0, result: 0, length: 4, count: 8 });
     assert_eq!(set[0], 0xff);
-    assert_eq!(rack.phys[84..88], [0x00, 0x09, 0x03, 0x00]);
+    assert_eq!(rack.phys[112..116], [0x00, 0x09, 0x03, 0x00]);
     let mut rack = Rack::default();
     assert_eq!(ask(&mut rack, 0, 0, &zone_phys(8, &[])).answer.count, 8, "the set is all ready phys, also for k = 0");
     assert_eq!(rack, Rack::default());
@@ -194,7 +195,7 @@ fn the_fill_is_no_descriptor() {
     let mut request = zone_phys(7, &[[0xe5, 0x09]]);
     request[10..].fill(0xff);
     assert_eq!(result(&mut rack, 0, &request), 0, "a fill that would be no good descriptor");
-    assert_eq!(rack.phys[84..86], [0x05, 0x09], "reserved bits are written as zero");
+    assert_eq!(rack.phys[112..114], [0x05, 0x09], "reserved bits are written as zero");
     let even = [0x40, 0x93, 0, 2, 0, 0, 6, 2, 0x00, 0x09, 0x00, 0x08];
     let mut odd = even;
     odd[7] = 1;
@@ -266,7 +267,7 @@ fn a_report_has_at_most_63_rows() {
 fn byte_20_between_all_kinds_of_phys() {
     let mut rack = Rack::default();
     // Phy 6 participates as well, and group 5 is what arrives there.
-    rack.phys[72] = 0x10;
+    rack.phys[6 * RECORD] = 0x10;
     rack.permissions[16 * 5 + 15] |= 1 << 1;
     let zone_byte = |phy, to, carried| {
         let (opened, out) = send(&rack, phy, &open_frame(address(to), carried));
@@ -284,7 +285,7 @@ fn byte_20_between_all_kinds_of_phys() {
 fn searches_end_at_the_first_record_that_fits() {
     let rack = Rack::default();
     let mut phys = rack.phys.clone();
-    phys[2 * 12 + 11] = 0x10;
+    phys[2 * RECORD + 11] = 0x10;
     phys[0] = 0;
     phys[2] = 0x02;
     let unready_first = open(&phys, &[], &[0xff; 2048], 1, &open_frame(address(0), 0), &mut [0; 28]);
@@ -302,7 +303,7 @@ fn searches_end_at_the_first_record_that_fits() {
     assert_eq!(outcome(&[route(3, 1), route(5, 1)], 3), 2, "a route back");
     assert_eq!(outcome(&[route(255, 1)], 3), 1);
     let zero = open_frame([0; 8], 0);
-    phys[5 * 12 + 4..6 * 12].fill(0);
+    phys[5 * RECORD + 4..][..8].fill(0);
     assert_eq!(open(&phys, &[0; 12], &[0xff; 2048], 1, &zero, &mut [0; 28]).outcome, 1, "zero matches nothing");
 }
 
@@ -350,21 +351,21 @@ fn refusals_in_order_of_checking() {
 #[test]
 fn links_leave_and_come_back() {
     let mut phys = Rack::default().phys;
-    phys[2 * 12..][..4].copy_from_slice(&[0xe5, 0x88, 0xff, 0x77]);
+    phys[2 * RECORD..][..4].copy_from_slice(&[0xe5, 0x88, 0xff, 0x77]);
     assert_eq!(leaving(&mut phys, 2), 0);
-    assert_eq!(phys[24..28], [0xe5, 0x88, 0x02, 0x77]);
+    assert_eq!(phys[32..36], [0xe5, 0x88, 0x02, 0x77]);
     assert_eq!(leaving(&mut phys, 2), 7);
-    assert_eq!(identify(&mut phys, 2, &[0; 8]), 5);
-    assert_eq!(identify(&mut phys, 2, &[0; 7]), 4);
-    assert_eq!(identify(&mut phys, 2, &address(2)), 0);
-    assert_eq!(phys[24..28], [0xe5, 0x88, 0x03, 0x77], "the same address keeps bytes 0 and 1");
-    assert_eq!(identify(&mut phys, 2, &[0; 7]), 7);
+    assert_eq!(identify(&mut phys, 2, &[0; 8], 1, 0), 5);
+    assert_eq!(identify(&mut phys, 2, &[0; 7], 1, 0), 4);
+    assert_eq!(identify(&mut phys, 2, &address(2), 1, 0), 0);
+    assert_eq!(phys[32..36], [0xe5, 0x88, 0x03, 0x77], "the same address keeps bytes 0 and 1");
+    assert_eq!(identify(&mut phys, 2, &[0; 7], 1, 0), 7);
     assert_eq!(leaving(&mut phys, 2), 0);
-    assert_eq!(identify(&mut phys, 2, &address(9)), 0);
-    assert_eq!(phys[24..36], [0, 0, 0x03, 0x77, 0x50, 0, 0, 0, 0, 0, 0, 0x19], "another one clears them");
-    phys[24..27].copy_from_slice(&[0x0f, 0x08, 0xfc]);
-    assert_eq!(identify(&mut phys, 2, &address(2)), 0);
-    assert_eq!(phys[24..28], [0x0f, 0x08, 0x03, 0x77], "no address was known");
+    assert_eq!(identify(&mut phys, 2, &address(9), 1, 0), 0);
+    assert_eq!(phys[32..44], [0, 0, 0x03, 0x77, 0x50, 0, 0, 0, 0, 0, 0, 0x19], "another one clears them");
+    phys[32..35].copy_from_slice(&[0x0f, 0x08, 0xfc]);
+    assert_eq!(identify(&mut phys, 2, &address(2), 1, 0), 0);
+    assert_eq!(phys[32..36], [0x0f, 0x08, 0x03, 0x77], "no address was known");
 }
 
 #[test]

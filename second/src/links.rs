@@ -1,7 +1,7 @@
 //! Links and supervisor.
 
 use crate::refusals::{arriving_phy, number, ready, refuse_if, Refusal};
-use crate::tables::{phy_table, phy_table_mut, route_table, PhyRecord, RouteRecord};
+use crate::tables::{phy_table, phy_table_mut, route_table, PhyRecord, RouteRecord, DEVICE_TYPE};
 
 const READY: u8 = 0b01;
 const ADDRESS_KNOWN: u8 = 0b10;
@@ -20,12 +20,12 @@ fn try_leaving(phys: &mut [u8], phy: u32) -> Result<(), Refusal> {
     Ok(())
 }
 
-/// IDENTIFY arrives with the attached address.
-pub fn identify(phys: &mut [u8], phy: u32, address: &[u8]) -> u32 {
-    number(try_identify(phys, phy, address))
+/// IDENTIFY arrives with the attached device's address and type, and with the phy of its own by which it is attached.
+pub fn identify(phys: &mut [u8], phy: u32, address: &[u8], device_type: u32, attached_phy: u32) -> u32 {
+    number(try_identify(phys, phy, address, device_type, attached_phy))
 }
 
-fn try_identify(phys: &mut [u8], phy: u32, address: &[u8]) -> Result<(), Refusal> {
+fn try_identify(phys: &mut [u8], phy: u32, address: &[u8], device_type: u32, attached_phy: u32) -> Result<(), Refusal> {
     let phys = phy_table_mut(phys)?;
     let place = arriving_phy(phys, phy)?;
     let record = &mut phys[place];
@@ -33,12 +33,16 @@ fn try_identify(phys: &mut [u8], phy: u32, address: &[u8]) -> Result<(), Refusal
     refuse_if(before.ready, Refusal::Readiness)?;
     let address: [u8; 8] = address.try_into().map_err(|_| Refusal::Length)?;
     refuse_if(address == [0; 8], Refusal::Kind)?;
+    let device_type = u8::try_from(device_type).map_err(|_| Refusal::Kind)?;
+    let attached_phy = u8::try_from(attached_phy).map_err(|_| Refusal::Kind)?;
     // Another device is attached than before: it does not inherit the zoning.
     if before.address_known && before.address != u64::from_be_bytes(address) {
         record[..2].fill(0);
     }
     record[2] = READY | ADDRESS_KNOWN;
-    record[4..].copy_from_slice(&address);
+    record[4..12].copy_from_slice(&address);
+    record[12] = device_type & DEVICE_TYPE;
+    record[13] = attached_phy;
     Ok(())
 }
 

@@ -4,7 +4,7 @@ use crate::permission::permitted;
 use crate::ports::same_port;
 use crate::refusals::{arriving_phy, ready, refuse_if, room, Refusal};
 use crate::speaking::source_of_open;
-use crate::tables::{permission_table, phy_table, route_table, Group, PhyRecord, Record, RouteRecord};
+use crate::tables::{permission_table, phy_table, route_table, Group, PhyRecord, Record, Route, RouteRecord};
 
 /// An OPEN frame without its CRC.
 pub const FRAME: usize = 28;
@@ -97,7 +97,7 @@ pub struct Found {
 }
 
 /// The phy table first, then the route table; an address of zero matches nothing.
-pub fn search(phys: &[Record], routes: &[Record], address: u64) -> Option<Found> {
+pub fn search(phys: &[Record], routes: &[Route], address: u64) -> Option<Found> {
     if address == 0 {
         return None;
     }
@@ -113,7 +113,7 @@ fn search_phys(phys: &[Record], address: u64) -> Option<Found> {
 }
 
 /// A route counts only if its phy exists and is ready, and if it has a group: the search goes on past any other.
-fn search_routes(phys: &[Record], routes: &[Record], address: u64) -> Option<Found> {
+fn search_routes(phys: &[Record], routes: &[Route], address: u64) -> Option<Found> {
     let is_ready = |phy: u8| phys.get(usize::from(phy)).is_some_and(|record| PhyRecord::from(record).ready);
     routes
         .iter()

@@ -23,8 +23,9 @@ mod tests {
 
     /// A phy in this state with this address; all else is zero.
     fn phy(state: u8, address: u64) -> Record {
-        let mut record = [0, 0, state, 0, 0, 0, 0, 0, 0, 0, 0, 0];
-        record[4..].copy_from_slice(&address.to_be_bytes());
+        let mut record = [0; 16];
+        record[2] = state;
+        record[4..12].copy_from_slice(&address.to_be_bytes());
         record
     }
 
@@ -59,7 +60,12 @@ mod tests {
     fn only_readiness_and_address_count() {
         let mut phys = [phy(READY, HOST); 2];
         phys[1][..4].copy_from_slice(&[0xff, 0x88, 0xff, 0xff]);
-        assert_eq!(pairs(&phys), [(0, 1)], "another group, participating, with a priority, the address known");
+        phys[1][12..].copy_from_slice(&[0x02, 0x05, 0xff, 0xff]);
+        assert_eq!(
+            pairs(&phys),
+            [(0, 1)],
+            "another group, participating, with a priority, another type and phy attached"
+        );
         for place in 0..64 {
             let phys = [HOST, HOST ^ 1 << place].map(|address| phy(READY, address));
             assert_eq!(pairs(&phys), [], "bit {place} differs");

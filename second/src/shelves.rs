@@ -51,16 +51,29 @@ macro_rules! shelf {
                 broadcast::broadcast_frame::<$width>(phys, permissions, phy, frame, set, out)
             }
 
+            #[allow(clippy::too_many_arguments, reason = "they are the header's")]
             pub fn smp(
                 phys: &mut [u8],
                 permissions: &mut [u8],
                 phy: u32,
                 carried: u32,
+                expander_changes: u32,
+                phy_changes: u32,
                 request: &[u8],
                 response: &mut [u8],
                 set: &mut [u8],
             ) -> Answered {
-                smp::smp::<$width>(phys, permissions, phy, carried, request, response, set)
+                smp::smp::<$width>(
+                    phys,
+                    permissions,
+                    phy,
+                    carried,
+                    expander_changes,
+                    phy_changes,
+                    request,
+                    response,
+                    set,
+                )
             }
 
             /// Another way to the same answer, for timing only.

@@ -51,25 +51,32 @@ pub struct Answered {
     pub count: u32,
 }
 
-/// An SMP request arrives; `carried` is the group that the caller took from the connection's OPEN.
+/// An SMP request arrives; `carried` is the group that the caller took from the connection's OPEN, and the two counts
+/// of changes, the expander's and the asked phy's, are the caller's own.
+#[allow(clippy::too_many_arguments, reason = "they are the header's")]
 pub fn smp<const WIDTH: usize>(
     phys: &mut [u8],
     permissions: &mut [u8],
     phy: u32,
     carried: u32,
+    expander_changes: u32,
+    phy_changes: u32,
     request: &[u8],
     response: &mut [u8],
     set: &mut [u8],
 ) -> Answered {
-    try_smp::<WIDTH>(phys, permissions, phy, carried, request, response, set)
+    try_smp::<WIDTH>(phys, permissions, phy, carried, expander_changes, phy_changes, request, response, set)
         .unwrap_or_else(|refusal| Answered { refusal: refusal.number(), ..Answered::default() })
 }
 
+#[allow(clippy::too_many_arguments, reason = "they are the header's")]
 fn try_smp<const WIDTH: usize>(
     phys: &mut [u8],
     permissions: &mut [u8],
     phy: u32,
     carried: u32,
+    expander_changes: u32,
+    phy_changes: u32,
     request: &[u8],
     response: &mut [u8],
     set: &mut [u8],
@@ -83,6 +90,8 @@ fn try_smp<const WIDTH: usize>(
     refuse_if(request[0] != REQUEST_TYPE, Refusal::Kind)?;
     let carried = u8::try_from(carried).map_err(|_| Refusal::Kind)?;
     let source = source_from_outside(&arriving, carried)?;
+    u16::try_from(expander_changes).map_err(|_| Refusal::Kind)?;
+    u8::try_from(phy_changes).map_err(|_| Refusal::Kind)?;
 
     let right = may_change_zoning(rows, source);
     let answer = match request[1] {

@@ -3,8 +3,17 @@
 use crate::refusals::Refusal;
 use std::ops::RangeInclusive;
 
-/// A record of the phy table or of the route table.
-pub type Record = [u8; 12];
+/// The bytes of a record of the phy table.
+pub const RECORD: usize = 16;
+
+/// A record of the phy table.
+pub type Record = [u8; RECORD];
+
+/// The bytes of a record of the route table.
+pub const ROUTE: usize = 12;
+
+/// A record of the route table.
+pub type Route = [u8; ROUTE];
 
 /// How many groups there are.
 pub const GROUPS: usize = 128;
@@ -25,6 +34,9 @@ pub type WireRow = Row<LARGE>;
 pub const fn groups_of_table(width: usize) -> usize {
     8 * width
 }
+
+/// The bits of a device type, in byte 12 of a phy record and in what IDENTIFY hands in.
+pub const DEVICE_TYPE: u8 = 0x07;
 
 const PHYS: RangeInclusive<usize> = 1..=128;
 const ROUTES: RangeInclusive<usize> = 0..=1024;
@@ -67,19 +79,24 @@ pub struct PhyRecord {
     pub ready: bool,
     pub address_known: bool,
     pub address: u64,
+    /// What kind of device is attached, and by which of its own phys.
+    pub device_type: u8,
+    pub attached_phy: u8,
 }
 
 impl From<&Record> for PhyRecord {
     #[inline]
     fn from(record: &Record) -> PhyRecord {
-        let [zoning, group, state, _, address @ ..] = *record;
+        let [zoning, group, state, _, a, b, c, d, e, f, g, h, device_type, attached_phy, _, _] = *record;
         PhyRecord {
             participating: zoning & 0x10 != 0,
             priority: zoning & 0x0f,
             group: Group::low_7_bits(group),
             ready: state & 1 != 0,
             address_known: state & 2 != 0,
-            address: u64::from_be_bytes(address),
+            address: u64::from_be_bytes([a, b, c, d, e, f, g, h]),
+            device_type: device_type & DEVICE_TYPE,
+            attached_phy,
         }
     }
 }
@@ -93,9 +110,9 @@ pub struct RouteRecord {
     pub priority: u8,
 }
 
-impl From<&Record> for RouteRecord {
+impl From<&Route> for RouteRecord {
     #[inline]
-    fn from(record: &Record) -> RouteRecord {
+    fn from(record: &Route) -> RouteRecord {
         let [address @ .., phy, group, priority, _] = *record;
         RouteRecord {
             address: u64::from_be_bytes(address),
@@ -117,7 +134,7 @@ pub fn phy_table_mut(phys: &mut [u8]) -> Result<&mut [Record], Refusal> {
     }
 }
 
-pub fn route_table(routes: &[u8]) -> Result<&[Record], Refusal> {
+pub fn route_table(routes: &[u8]) -> Result<&[Route], Refusal> {
     records(routes, ROUTES)
 }
 
@@ -139,7 +156,7 @@ fn is_table<const WIDTH: usize>(rows: &[Row<WIDTH>]) -> bool {
     rows.len() == groups_of_table(WIDTH)
 }
 
-fn records(table: &[u8], sizes: RangeInclusive<usize>) -> Result<&[Record], Refusal> {
+fn records<const BYTES: usize>(table: &[u8], sizes: RangeInclusive<usize>) -> Result<&[[u8; BYTES]], Refusal> {
     match table.as_chunks() {
         (records, []) if sizes.contains(&records.len()) => Ok(records),
         _ => Err(Refusal::TableSize),
@@ -155,10 +172,16 @@ mod tests {
         for (bytes, phys, routes) in [
             (0, false, true),
             (11, false, false),
-            (12, true, true),
+            (12, false, true),
             (13, false, false),
+            (15, false, false),
+            (16, true, false),
+            (17, false, false),
             (1536, true, true),
-            (1548, false, true),
+            (2047, false, false),
+            (2048, true, false),
+            (2049, false, false),
+            (2064, false, true),
             (12288, false, true),
             (12300, false, false),
         ] {
@@ -175,11 +198,12 @@ mod tests {
 
     #[test]
     fn reserved_bits_are_ignored_when_read() {
-        let noisy = [0xff, 0x88, 0xfd, 0xff, 0x50, 0, 0, 0, 0, 0, 0, 0x10];
+        let noisy = [0xff, 0x88, 0xfd, 0xff, 0x50, 0, 0, 0, 0, 0, 0, 0x10, 0xfa, 0x83, 0xff, 0xff];
         let record = PhyRecord::from(&noisy);
         assert!(record.participating && record.ready && !record.address_known);
         assert_eq!((record.priority, record.group.number()), (15, 8));
         assert_eq!(record.address, 0x5000_0000_0000_0010);
+        assert_eq!((record.device_type, record.attached_phy), (2, 0x83));
         let route = RouteRecord::from(&[0x50, 0, 0, 0, 0, 0, 0, 0x10, 0x81, 0x08, 0xf3, 0xff]);
         assert_eq!((route.phy, route.group, route.priority), (0x81, Some(Group(8)), 3));
     }

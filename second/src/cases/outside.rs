@@ -6,6 +6,7 @@
 use super::{address, open_frame, zone_phys, STAYS};
 use crate::bench::{self, Event, Rack};
 use crate::links::{elect, leaving};
+use crate::tables::RECORD;
 use crate::trial::call::{Answer, Call};
 use crate::trial::profile::Profile;
 use crate::Elected;
@@ -47,7 +48,9 @@ impl Shelf {
         let (phys, permissions) = (self.phys.clone(), self.permissions.clone());
         let (response, set) = (vec![STAYS; 1020], vec![STAYS; 16]);
         let request = request.to_vec();
-        Call::Smp { phys, permissions, phy, carried, request, response, set }.model(self.profile)
+        let (expander_changes, phy_changes) = (0, 0);
+        Call::Smp { phys, permissions, phy, carried, expander_changes, phy_changes, request, response, set }
+            .model(self.profile)
     }
 
     /// The same, and the shelf goes on with the tables that it left behind.
@@ -230,12 +233,12 @@ fn a_route_of_no_group_is_no_candidate() {
 #[test]
 fn other_bytes_keep_their_rules() {
     for mut shelf in both() {
-        shelf.phys[6 * 12] = 0x10;
+        shelf.phys[6 * RECORD] = 0x10;
         let sent = |byte, to| shelf.open(6, &[], &open_frame(address(to), byte));
         assert_eq!(sent(0x88, 7), (forward(7), 0x88), "group 8 reaches group 1, and bit 7 is carried on");
         assert_eq!(sent(0x88, 1), (ZONE_VIOLATION, STAYS), "it does not reach group 2");
         assert_eq!(sent(0x81, 2), (forward(2), 0), "group 1 does reach group 8");
-        shelf.phys[2 * 12 + 1] = 0x81;
+        shelf.phys[2 * RECORD + 1] = 0x81;
         assert_eq!(shelf.open(2, &[], &open_frame(address(3), 0)).0, forward(3), "phy 2 is in group 1");
         assert_eq!(shelf.open(3, &[], &open_frame(address(2), 0)).0, forward(2), "from either side");
         assert_eq!(shelf.ask(2, 0, REQUESTS[0]).fields[..2], [0, 0]);

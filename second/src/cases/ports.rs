@@ -17,7 +17,7 @@ fn rack_with(phys: &[usize], address: [u8; 8]) -> Rack {
 
 fn attach(rack: &mut Rack, phys: &[usize], address: [u8; 8]) {
     for phy in phys {
-        rack.phys[12 * phy + 4..][..8].copy_from_slice(&address);
+        rack.phys[RECORD * phy + 4..][..8].copy_from_slice(&address);
     }
 }
 
@@ -33,7 +33,7 @@ fn change(rack: &Rack, phy: u32) -> u8 {
     let told = primitive(&rack.phys, &rack.permissions, phy, 0, &mut set, &mut out);
     assert_eq!(told, Told { refusal: 0, count: set[0].count_ones() });
     assert_eq!((&set[1..16], set[16]), (&[0; 15][..], STAYS));
-    let source = rack.phys[12 * phy as usize + 1];
+    let source = rack.phys[RECORD * phy as usize + 1];
     assert_eq!((&out[..5], &out[5..28], out[28]), (&[0x02, 0, 0, source, 0][..], &[0; 23][..], STAYS));
     set[0]
 }
@@ -135,9 +135,9 @@ fn a_phy_that_leaves_ready_leaves_its_port() {
     assert_eq!(change(&rack, 0), 0xba, "3 for 6");
     assert_eq!(leaving(&mut rack.phys, 3), 0);
     assert_eq!(change(&rack, 0), 0xf2, "6 alone");
-    assert_eq!(identify(&mut rack.phys, 3, &address(3)), 0);
+    assert_eq!(identify(&mut rack.phys, 3, &address(3), 1, 0), 0);
     assert_eq!(change(&rack, 0), 0xfa, "3 is back, in another port");
-    assert_eq!(identify(&mut rack.phys, 2, &address(2)), 0);
+    assert_eq!(identify(&mut rack.phys, 2, &address(2), 1, 0), 0);
     assert_eq!(change(&rack, 0), 0xbe, "2 for 6, and 3");
 }
 
@@ -199,6 +199,7 @@ fn four_hosts_of_32_phys() {
     for phy in 0..128u8 {
         phys.extend([0, 1, 1, 0]);
         phys.extend(address(phy % 4));
+        phys.extend([0; 4]);
     }
     let arrive = |phy| {
         let mut set = [STAYS; 16];

@@ -29,7 +29,7 @@ fn rack(permissions: [u8; 8]) -> Small {
 impl Small {
     fn ask(&mut self, phy: u32, carried: u32, request: &[u8]) -> (Answered, Vec<u8>, [u8; 16]) {
         let (mut response, mut set) = (vec![STAYS; 1024], [STAYS; 16]);
-        let answer = smp(&mut self.phys, &mut self.permissions, phy, carried, request, &mut response, &mut set);
+        let answer = smp(&mut self.phys, &mut self.permissions, phy, carried, 0, 0, request, &mut response, &mut set);
         (answer, response, set)
     }
 
@@ -79,7 +79,7 @@ fn single(source: u8, target: u8) -> [u8; 12] {
 
 /// What becomes of an OPEN from a phy in one group to a phy in another.
 fn between(permissions: [u8; 8], from: u8, to: u8) -> u32 {
-    let phy = |group, phy| [&[0, group, 0b11, 0][..], &address(phy)].concat();
+    let phy = |group, phy| [&[0, group, 0b11, 0][..], &address(phy), &[0; 4]].concat();
     let phys = [phy(from, 0), phy(to, 1)].concat();
     open(&phys, &[], &permissions, 0, &open_frame(address(1), 0), &mut [0; 28]).outcome
 }
@@ -101,7 +101,7 @@ fn another_size_than_8_bytes_is_refused() {
         assert_eq!(open(&phys, &[], &table, 0, &open_frame(address(1), 0), &mut out).refusal, 1);
         assert_eq!(primitive(&phys, &table, 0, 0, &mut set, &mut out).refusal, 1);
         assert_eq!(broadcast_frame(&phys, &table, 7, &[0x03, 0, 0, 1], &mut set, &mut out).refusal, 1);
-        assert_eq!(smp(&mut phys.clone(), &mut table, 0, 0, &CASE_1, &mut response, &mut set).refusal, 1);
+        assert_eq!(smp(&mut phys.clone(), &mut table, 0, 0, 0, 0, &CASE_1, &mut response, &mut set).refusal, 1);
         assert_eq!(table, vec![STAYS; size], "a refused call writes nothing");
     }
 }
@@ -239,8 +239,8 @@ fn a_descriptor_that_names_a_group_above_7_answers_02h() {
     let mut odd = zone_phys(2, &[[0xe5, 0x07]]);
     odd[10..].copy_from_slice(&[0x00, 0x08]);
     assert_eq!(shelf.result(&odd), 0, "the fill names no group");
-    assert_eq!(shelf.phys[24..26], [0x05, 0x07]);
-    assert_eq!(shelf.phys[36..38], [0x00, 0x08], "phy 3 stays in group 8");
+    assert_eq!(shelf.phys[32..34], [0x05, 0x07]);
+    assert_eq!(shelf.phys[48..50], [0x00, 0x08], "phy 3 stays in group 8");
     assert_eq!(shelf.result(&zone_phys(3, &[[0x10, 0x01], [0x00, 0x00]])), 0);
 }
 

@@ -28,6 +28,8 @@ pub enum Call {
         phys: Vec<u8>,
         phy: u32,
         address: Vec<u8>,
+        device_type: u32,
+        attached_phy: u32,
     },
     Elect {
         phys: Vec<u8>,
@@ -62,6 +64,8 @@ pub enum Call {
         permissions: Vec<u8>,
         phy: u32,
         carried: u32,
+        expander_changes: u32,
+        phy_changes: u32,
         request: Vec<u8>,
         response: Vec<u8>,
         set: Vec<u8>,
@@ -109,9 +113,11 @@ impl Call {
         let (place, numbers, buffers) = match self {
             Call::StartUp { permissions } => (0, vec![], vec![("permissions", permissions)]),
             Call::Leaving { phys, phy } => (1, vec![("phy", *phy)], vec![("phys", phys)]),
-            Call::Identify { phys, phy, address } => {
-                (2, vec![("phy", *phy)], vec![("phys", phys), ("address", address)])
-            }
+            Call::Identify { phys, phy, address, device_type, attached_phy } => (
+                2,
+                vec![("phy", *phy), ("device_type", *device_type), ("attached_phy", *attached_phy)],
+                vec![("phys", phys), ("address", address)],
+            ),
             Call::Elect { phys, routes } => (3, vec![], vec![("phys", phys), ("routes", routes)]),
             Call::Open { phys, routes, permissions, phy, frame, out } => (
                 4,
@@ -128,9 +134,14 @@ impl Call {
                 vec![("phy", *phy)],
                 vec![("phys", phys), ("permissions", permissions), ("frame", frame), ("set", set), ("out", out)],
             ),
-            Call::Smp { phys, permissions, phy, carried, request, response, set } => (
+            Call::Smp { phys, permissions, phy, carried, expander_changes, phy_changes, request, response, set } => (
                 7,
-                vec![("phy", *phy), ("carried", *carried)],
+                vec![
+                    ("phy", *phy),
+                    ("carried", *carried),
+                    ("expander_changes", *expander_changes),
+                    ("phy_changes", *phy_changes),
+                ],
                 vec![
                     ("phys", phys),
                     ("permissions", permissions),
@@ -175,8 +186,8 @@ impl Call {
                 let refusal = leaving(&mut phys, phy);
                 Answer::new(&[refusal.into()], vec![phys])
             }
-            Call::Identify { mut phys, phy, address } => {
-                let refusal = identify(&mut phys, phy, &address);
+            Call::Identify { mut phys, phy, address, device_type, attached_phy } => {
+                let refusal = identify(&mut phys, phy, &address, device_type, attached_phy);
                 Answer::new(&[refusal.into()], vec![phys])
             }
             Call::Elect { phys, routes } => {
@@ -195,8 +206,28 @@ impl Call {
                 let told = broadcast_frame::<WIDTH>(&phys, &permissions, phy, &frame, &mut set, &mut out);
                 Answer::new(&[told.refusal, told.count].map(u64::from), vec![set, out])
             }
-            Call::Smp { mut phys, mut permissions, phy, carried, request, mut response, mut set } => {
-                let answer = smp::<WIDTH>(&mut phys, &mut permissions, phy, carried, &request, &mut response, &mut set);
+            Call::Smp {
+                mut phys,
+                mut permissions,
+                phy,
+                carried,
+                expander_changes,
+                phy_changes,
+                request,
+                mut response,
+                mut set,
+            } => {
+                let answer = smp::<WIDTH>(
+                    &mut phys,
+                    &mut permissions,
+                    phy,
+                    carried,
+                    expander_changes,
+                    phy_changes,
+                    &request,
+                    &mut response,
+                    &mut set,
+                );
                 let fields = [answer.refusal, answer.result, answer.length, answer.count].map(u64::from);
                 Answer::new(&fields, vec![phys, permissions, response, set])
             }

@@ -220,7 +220,7 @@ fn answered(profile: Profile, call: &Call, answer: &Answer) -> &'static str {
     match call {
         Call::StartUp { .. } => "written",
         Call::Leaving { .. } => "left",
-        Call::Identify { phys, phy, address } => identified(record(phys, *phy), address),
+        Call::Identify { phys, phy, address, .. } => identified(record(phys, *phy), address),
         Call::Elect { phys, .. } => elected(phys, answer),
         Call::Open { phys, routes, phy, frame, .. } => opened(phys, routes, *phy, frame, answer),
         Call::Primitive { .. } if some => "some told",
@@ -235,7 +235,7 @@ fn answered(profile: Profile, call: &Call, answer: &Answer) -> &'static str {
 }
 
 fn record(phys: &[u8], phy: u32) -> PhyRecord {
-    PhyRecord::from(&phys.as_chunks::<12>().0[phy as usize])
+    PhyRecord::from(&phys.as_chunks().0[phy as usize])
 }
 
 fn identified(before: PhyRecord, address: &[u8]) -> &'static str {
@@ -253,7 +253,7 @@ fn elected(phys: &[u8], answer: &Answer) -> &'static str {
     let is_it = |record: PhyRecord| record.ready && (u64::from(record.priority), record.address) == (priority, address);
     if priority == 0 {
         "none"
-    } else if phys.as_chunks::<12>().0.iter().map(PhyRecord::from).any(is_it) {
+    } else if phys.as_chunks().0.iter().map(PhyRecord::from).any(is_it) {
         "a phy"
     } else {
         "a route"
@@ -358,13 +358,14 @@ mod tests {
     use super::super::generate::Generator;
     use super::*;
     use crate::bench::Rack;
+    use crate::tables::RECORD;
 
     #[test]
     fn an_answer_is_in_several_classes() {
         // Phys 3, 4 and 5 have one address; group 8 of the arriving phy reaches group 9 of phys 4 and 5, not its own.
         let Rack { mut phys, mut permissions } = Rack::default();
         for phy in [3, 4, 5] {
-            phys[12 * phy + 11] = 0x13;
+            phys[RECORD * phy + 11] = 0x13;
         }
         permissions[16 * 8 + 14] |= 1 << 1;
         let call = Call::Primitive { phys, permissions, phy: 2, number: 0, set: vec![0; 16], out: vec![0; 28] };

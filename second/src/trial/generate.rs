@@ -5,6 +5,7 @@ use super::profile::Profile;
 use super::random::Random;
 use super::requests::{broadcast_frame, damage_frame, open_frame, request};
 use super::shelf::Shelf;
+use crate::tables::RECORD;
 
 pub struct Generator {
     random: Random,
@@ -91,7 +92,13 @@ impl Generator {
             let length = self.random.pick(&[0, 1, 7, 9, 16, 264]);
             address.resize(length, 0);
         }
-        Call::Identify { phys: self.shelf.phys.clone(), phy: phy as u32, address }
+        Call::Identify {
+            phys: self.shelf.phys.clone(),
+            phy: phy as u32,
+            address,
+            device_type: self.number(&DEVICE_TYPES, 256),
+            attached_phy: self.number(&BYTES, 256),
+        }
     }
 
     fn elect(&mut self) -> Call {
@@ -153,9 +160,20 @@ impl Generator {
             permissions: self.shelf.permissions.clone(),
             phy: phy as u32,
             carried: carried.into(),
+            expander_changes: self.number(&WORDS, 65_536),
+            phy_changes: self.number(&BYTES, 256),
             request,
             response: self.buffer(1020),
             set: self.buffer(16),
+        }
+    }
+
+    /// A number below the bound: any, or one of these edges. Now and then it is one that does not fit.
+    fn number(&mut self, edges: &[u32], bound: u32) -> u32 {
+        match self.random.below(100) {
+            0..=1 => too_wide(&mut self.random, bound),
+            2..=49 => self.random.pick(edges),
+            _ => self.random.number() as u32 % bound,
         }
     }
 
@@ -183,6 +201,17 @@ impl Generator {
             damage_once(&mut self.random, self.shelf.profile, call, damage);
         }
     }
+}
+
+/// Edges of what IDENTIFY and SMP hand in. A device type has three bits, of a byte.
+const DEVICE_TYPES: [u32; 11] = [0, 1, 1, 2, 2, 3, 7, 8, 9, 254, 255];
+const BYTES: [u32; 6] = [0, 1, 127, 128, 254, 255];
+const WORDS: [u32; 9] = [0, 1, 254, 255, 256, 257, 65_280, 65_534, 65_535];
+
+/// A number that is not below the bound, at times one that would be good if it were cut.
+fn too_wide(random: &mut Random, bound: u32) -> u32 {
+    let [cut, cut_to_16] = [bound, 65_536].map(|more| random.below(256) as u32 + more);
+    random.pick(&[bound, bound, bound + 1, cut, cut_to_16, 1 << 31, u32::MAX, u32::MAX])
 }
 
 fn damage_once(random: &mut Random, profile: Profile, call: &mut Call, damage: Damage) {
@@ -216,7 +245,7 @@ fn damage_size(random: &mut Random, profile: Profile, call: &mut Call) {
     let size = random.pick(sizes);
     if random.percent(50) {
         // A byte or a part of a record too many or missing. (A whole record leaves another good size.)
-        let size = table.len().saturating_add_signed(random.pick(&[-1, 1, -12, 12, 6, -11]));
+        let size = table.len().saturating_add_signed(random.pick(&[-1, 1, -16, 16, -12, 12, 8, 6, -15, -11]));
         table.resize(size, 0);
     } else {
         table.resize(size, 0xa5);
@@ -225,7 +254,7 @@ fn damage_size(random: &mut Random, profile: Profile, call: &mut Call) {
 
 /// Wrong sizes, and right ones at the edge. The last of each is a right one where a size is cut to 16 bits. The size that
 /// stands twice is the other shelf's.
-const PHY_SIZES: [usize; 8] = [0, 1, 12, 1535, 1536, 1537, 1548, 65_536 + 1536];
+const PHY_SIZES: [usize; 9] = [0, 1, 12, 16, 2047, 2048, 2049, 2064, 65_536 + 2048];
 const ROUTE_SIZES: [usize; 8] = [0, 1, 11, 12, 12_288, 12_289, 12_300, 65_536 + 12_288];
 const PERMISSION_SIZES: [usize; 9] = [0, 8, 8, 16, 2032, 2047, 2049, 2064, 65_536 + 2048];
 const PERMISSION_SIZES_OF_SMALL: [usize; 9] = [0, 7, 9, 16, 256, 264, 2048, 2048, 65_536 + 8];
@@ -240,7 +269,7 @@ fn damage_phy(random: &mut Random, call: &mut Call) {
         | Call::BroadcastFrame { phys, phy, .. }
         | Call::Smp { phys, phy, .. } => (phys, phy),
     };
-    let count = (phys.len() / 12) as u32;
+    let count = (phys.len() / RECORD) as u32;
     let [cut_to_8, cut_to_16] = right_where_cut(*phy);
     *phy = random.pick(&[count, count + 1, 127, 128, 255, 256, cut_to_8, cut_to_16, 1 << 31, u32::MAX]);
 }
@@ -283,7 +312,7 @@ fn damage_readiness(call: &mut Call) {
         | Call::Primitive { phys, phy, .. }
         | Call::BroadcastFrame { phys, phy, .. }
         | Call::Smp { phys, phy, .. } => {
-            if let Some(record) = phys.as_chunks_mut::<12>().0.get_mut(*phy as usize) {
+            if let Some(record) = phys.as_chunks_mut::<RECORD>().0.get_mut(*phy as usize) {
                 record[2] ^= 1;
             }
         }
@@ -296,12 +325,20 @@ fn damage_number(random: &mut Random, call: &mut Call) {
             let [cut_to_8, cut_to_16] = right_where_cut(*number);
             *number = random.pick(&[8, 9, 15, 16, 128, 255, 256, cut_to_8, cut_to_16, u32::MAX]);
         }
-        Call::Smp { carried, .. } => {
-            let [cut_to_8, cut_to_16] = right_where_cut(*carried);
-            *carried = random.pick(&[256, 255, 128, cut_to_8, cut_to_16, 1 << 31, u32::MAX]);
-        }
+        Call::Smp { carried, expander_changes, phy_changes, .. } => match random.below(4) {
+            0 => *expander_changes = too_wide(random, 65_536),
+            1 => *phy_changes = too_wide(random, 256),
+            _ => {
+                let [cut_to_8, cut_to_16] = right_where_cut(*carried);
+                *carried = random.pick(&[256, 255, 128, cut_to_8, cut_to_16, 1 << 31, u32::MAX]);
+            }
+        },
         Call::Open { frame, .. } | Call::BroadcastFrame { frame, .. } => damage_frame(random, frame),
-        Call::Identify { address, .. } => address.fill(0),
+        Call::Identify { address, device_type, attached_phy, .. } => match random.below(4) {
+            0 => *device_type = too_wide(random, 256),
+            1 => *attached_phy = too_wide(random, 256),
+            _ => address.fill(0),
+        },
         _ => {}
     }
 }

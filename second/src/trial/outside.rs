@@ -5,7 +5,7 @@ use super::arrival::{is_in, that_apply, Classes};
 use super::call::{Answer, Call};
 use super::profile::Profile;
 use crate::smp::{CONFIGURE_PHY_ZONE, CONFIGURE_ZONE_PERMISSION, REPORT_ZONE_PERMISSION, REQUEST_TYPE};
-use crate::tables::{Group, PhyRecord, Record, RouteRecord};
+use crate::tables::{Group, PhyRecord, Record, Route, RouteRecord};
 use std::cmp::Ordering;
 
 /// All classes that a run must reach on either shelf, by call.
@@ -103,7 +103,7 @@ fn is_participating(record: &Record) -> bool {
     PhyRecord::from(record).participating
 }
 
-fn elected(phys: &[Record], routes: &[Record], answer: &Answer) -> Classes {
+fn elected(phys: &[Record], routes: &[Route], answer: &Answer) -> Classes {
     let best = (answer.fields[1], answer.fields[2]);
     let is_best = |phy: PhyRecord| phy.ready && (u64::from(phy.priority), phy.address) == best;
     let by_phy = phys.iter().map(PhyRecord::from).any(is_best);
@@ -126,12 +126,12 @@ fn elected(phys: &[Record], routes: &[Record], answer: &Answer) -> Classes {
 }
 
 /// Byte 9 of each route that a search comes to and that fits but for its group, up to the one that ends it.
-fn tried(phys: &[Record], routes: &[Record], address: &[u8]) -> Vec<u8> {
-    let is_attached = |record: &Record| is_ready(record) && record[4..] == *address;
+fn tried(phys: &[Record], routes: &[Route], address: &[u8]) -> Vec<u8> {
+    let is_attached = |record: &Record| is_ready(record) && record[4..12] == *address;
     if phys.iter().any(is_attached) {
         return Vec::new();
     }
-    let leads_on = |route: &&Record| phys.get(usize::from(route[8])).is_some_and(is_ready);
+    let leads_on = |route: &&Route| phys.get(usize::from(route[8])).is_some_and(is_ready);
     let fitting = routes.iter().filter(|route| route[..8] == *address).filter(leads_on).map(|route| route[9]);
     let mut bytes: Vec<u8> = fitting.collect();
     let last = bytes.iter().position(|&byte| !is_no_group(byte));
@@ -139,7 +139,7 @@ fn tried(phys: &[Record], routes: &[Record], address: &[u8]) -> Vec<u8> {
     bytes
 }
 
-fn opened(phys: &[Record], routes: &[Record], phy: usize, frame: &[u8], answer: &Answer) -> Classes {
+fn opened(phys: &[Record], routes: &[Route], phy: usize, frame: &[u8], answer: &Answer) -> Classes {
     let [no_destination, bad, violation, forward] = [1, 2, 3, 4].map(|outcome| answer.fields[1] == outcome);
     let zero = frame[4..12] == [0; 8];
     let tried = if zero { Vec::new() } else { tried(phys, routes, &frame[4..12]) };

@@ -4,7 +4,7 @@ use super::arrival::{is_in, that_apply, Arrival, Classes};
 use super::call::{Answer, Call};
 use crate::open::{search, Found};
 use crate::smp::{CONFIGURE_PHY_ZONE, CONFIGURE_ZONE_PERMISSION};
-use crate::tables::{PhyRecord, Record, RouteRecord};
+use crate::tables::{PhyRecord, Record, Route, RouteRecord};
 
 /// Of a broadcast, whether it arrived as a primitive or as a frame. A wide port is one of several phys.
 pub const BROADCAST: [&str; 12] = [
@@ -80,7 +80,7 @@ fn told(arrival: &Arrival, set: &[u8]) -> Classes {
     ])
 }
 
-fn opened(arrival: &Arrival, routes: &[Record], frame: &[u8], answer: &Answer) -> Classes {
+fn opened(arrival: &Arrival, routes: &[Route], frame: &[u8], answer: &Answer) -> Classes {
     let Some(found) = found(arrival.phys, routes, frame) else {
         return Vec::new();
     };
@@ -107,7 +107,7 @@ fn opened(arrival: &Arrival, routes: &[Record], frame: &[u8], answer: &Answer) -
 }
 
 /// Where an OPEN frame's search ends.
-pub fn found(phys: &[Record], routes: &[Record], frame: &[u8]) -> Option<Found> {
+pub fn found(phys: &[Record], routes: &[Route], frame: &[u8]) -> Option<Found> {
     search(phys, routes, u64::from_be_bytes(frame[4..12].try_into().expect("8 bytes")))
 }
 

@@ -5,7 +5,7 @@ use super::random::Random;
 use super::requests::{byte_from_outside, group, group_byte, reserved};
 use crate::bench::Rack;
 use crate::speaking::source_from_outside;
-use crate::tables::{PhyRecord, Record};
+use crate::tables::{PhyRecord, Route, DEVICE_TYPE, RECORD, ROUTE};
 use std::iter::repeat_n;
 
 pub struct Shelf {
@@ -21,7 +21,7 @@ impl Shelf {
     pub fn random(random: &mut Random, profile: Profile) -> Shelf {
         let addresses = addresses(random);
         let phys = if random.percent(10) { Rack::default().phys } else { phys(random, profile, &addresses) };
-        let routes = routes(random, profile, &addresses, phys.len() / 12);
+        let routes = routes(random, profile, &addresses, phys.len() / RECORD);
         Shelf { profile, phys, routes, permissions: permissions(random, profile), addresses }
     }
 
@@ -32,11 +32,11 @@ impl Shelf {
     }
 
     pub fn count(&self) -> usize {
-        self.phys.len() / 12
+        self.phys.len() / RECORD
     }
 
     pub fn record(&self, phy: usize) -> PhyRecord {
-        PhyRecord::from(&self.phys.as_chunks::<12>().0[phy])
+        PhyRecord::from(&self.phys.as_chunks().0[phy])
     }
 
     /// An address that is likely to be found.
@@ -45,7 +45,7 @@ impl Shelf {
             0 => random.pick(&self.addresses),
             1 => random.number(),
             2..=5 if !self.routes.is_empty() => {
-                let record: &Record = &self.routes.as_chunks().0[random.below(self.routes.len() / 12)];
+                let record: &Route = &self.routes.as_chunks().0[random.below(self.routes.len() / ROUTE)];
                 u64::from_be_bytes(record[..8].try_into().expect("8 bytes"))
             }
             _ => self.record(random.below(self.count())).address,
@@ -117,15 +117,18 @@ fn phys(random: &mut Random, profile: Profile, addresses: &[u64]) -> Vec<u8> {
     let participating = random.pick(&[0, 10, 40, 90]);
     let alike = random.pick(&[0, 50, 95]);
     let attached = attached(random, addresses, count);
-    let mut table = Vec::with_capacity(count * 12);
+    let mut table = Vec::with_capacity(count * RECORD);
     for (phy, &address) in attached.iter().enumerate() {
         match attached[..phy].iter().rposition(|&other| other == address) {
-            Some(before) if random.percent(alike) => table.extend_from_within(12 * before..12 * before + 2),
+            Some(before) if random.percent(alike) => table.extend_from_within(RECORD * before..RECORD * before + 2),
             _ => table.extend(zoning(random, profile, participating)),
         }
         table.push(u8::from(random.percent(ready)) | u8::from(random.percent(80)) << 1 | reserved(random) & 0xfc);
         table.push(if random.percent(90) { 0 } else { random.byte() });
         table.extend(address.to_be_bytes());
+        table.push(random.byte() & DEVICE_TYPE | reserved(random) & !DEVICE_TYPE);
+        table.push(if random.percent(20) { 0 } else { random.byte() });
+        table.extend([0, 1].map(|_| if random.percent(90) { 0 } else { random.byte() }));
     }
     table
 }
@@ -179,7 +182,7 @@ fn routes(random: &mut Random, profile: Profile, addresses: &[u64], phys: usize)
         _ => random.between(1, 12),
     };
     let no_group = random.pick(&[0, 10, 10, 50]);
-    let mut table = Vec::with_capacity(count * 12);
+    let mut table = Vec::with_capacity(count * ROUTE);
     for _ in 0..count {
         let phy = match random.below(10) {
             0 => phys.min(255) as u8,
@@ -187,7 +190,7 @@ fn routes(random: &mut Random, profile: Profile, addresses: &[u64], phys: usize)
             _ => random.below(phys) as u8,
         };
         // Routes to one address follow one another, so that a search has more than one to choose from.
-        match (table.len().checked_sub(12), random.below(10)) {
+        match (table.len().checked_sub(ROUTE), random.below(10)) {
             (Some(last), 0..=2) => table.extend_from_within(last..last + 8),
             (_, 3) => table.extend(random.number().to_be_bytes()),
             _ => table.extend(random.pick(addresses).to_be_bytes()),

@@ -5,7 +5,7 @@ use super::arrival::{is_in, that_apply, Arrival, Classes};
 use super::call::{Answer, Call};
 use super::ports::found;
 use crate::smp::{CONFIGURE_PHY_ZONE, CONFIGURE_ZONE_PERMISSION, REPORT_ZONE_PERMISSION};
-use crate::tables::{Group, Record};
+use crate::tables::{Group, Route};
 
 /// All classes that a run on the small shelf must reach beside those of both shelves, by call.
 pub const REQUIRED: [(&str, &[&str]); 7] = [
@@ -118,7 +118,7 @@ fn judged(arrival: &Arrival, destination: Group, on: bool) -> Classes {
     ])
 }
 
-fn opened(arrival: &Arrival, routes: &[Record], frame: &[u8], outcome: u64) -> Classes {
+fn opened(arrival: &Arrival, routes: &[Route], frame: &[u8], outcome: u64) -> Classes {
     // The groups of a BAD DESTINATION are not judged.
     let Some(found) = found(arrival.phys, routes, frame).filter(|_| outcome >= 3) else {
         return Vec::new();

@@ -22,7 +22,15 @@ pub mod links {
 
     extern "C" {
         fn shelf_leaving(phys: Out, n: usize, phy: u32) -> u32;
-        fn shelf_identify(phys: Out, n: usize, phy: u32, address: In, m: usize) -> u32;
+        fn shelf_identify(
+            phys: Out,
+            n: usize,
+            phy: u32,
+            address: In,
+            m: usize,
+            device_type: u32,
+            attached_phy: u32,
+        ) -> u32;
         fn shelf_elect(phys: In, n: usize, routes: In, m: usize) -> c::Elected;
     }
 
@@ -30,8 +38,9 @@ pub mod links {
         unsafe { shelf_leaving(phys.as_mut_ptr(), phys.len(), phy) }
     }
 
-    pub fn identify(phys: &mut [u8], phy: u32, address: &[u8]) -> u32 {
-        unsafe { shelf_identify(phys.as_mut_ptr(), phys.len(), phy, address.as_ptr(), address.len()) }
+    pub fn identify(phys: &mut [u8], phy: u32, address: &[u8], device_type: u32, attached_phy: u32) -> u32 {
+        let (n, m) = (phys.len(), address.len());
+        unsafe { shelf_identify(phys.as_mut_ptr(), n, phy, address.as_ptr(), m, device_type, attached_phy) }
     }
 
     pub fn elect(phys: &[u8], routes: &[u8]) -> Elected {
@@ -127,6 +136,8 @@ macro_rules! shelf {
                         m: usize,
                         phy: u32,
                         carried: u32,
+                        expander_changes: u32,
+                        phy_changes: u32,
                         request: In,
                         q: usize,
                         response: Out,
@@ -218,11 +229,14 @@ macro_rules! shelf {
                 Told { refusal, count }
             }
 
+            #[allow(clippy::too_many_arguments, reason = "they are the header's")]
             pub fn smp(
                 phys: &mut [u8],
                 permissions: &mut [u8],
                 phy: u32,
                 carried: u32,
+                expander_changes: u32,
+                phy_changes: u32,
                 request: &[u8],
                 response: &mut [u8],
                 set: &mut [u8],
@@ -235,6 +249,8 @@ macro_rules! shelf {
                         permissions.len(),
                         phy,
                         carried,
+                        expander_changes,
+                        phy_changes,
                         request.as_ptr(),
                         request.len(),
                         response.as_mut_ptr(),

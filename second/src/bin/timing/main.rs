@@ -4,6 +4,7 @@
 //! timed, both must give the same answer and leave the same bytes behind.
 
 use second::chains::slot_of;
+use second::tables::{RECORD, ROUTE};
 use second::trial::profile::Profile;
 use second::trial::random::Random;
 use second::{large, small, Answered, Elected, Opened, Told};
@@ -81,6 +82,14 @@ const SMALL_SMP: Pair = pair!(smp, library::small::smp, small::smp);
 /// The arriving phy of all calls but identify and leaving: the first one, in group 1.
 const ARRIVING: u32 = 0;
 
+/// What IDENTIFY hands in beside the address.
+const DEVICE: u32 = 1;
+const ATTACHED_PHY: u32 = 3;
+
+/// The counts that SMP hands in.
+const EXPANDER_CHANGES: u32 = 0x1234;
+const PHY_CHANGES: u32 = 0x56;
+
 #[inline]
 fn start_up(lent: &mut Lent, start_up: impl Fn(&mut [u8]) -> u32) -> [u64; 4] {
     [start_up(&mut lent.permissions).into(), 0, 0, 0]
@@ -117,25 +126,26 @@ fn broadcast_frame(
 #[inline]
 fn smp(
     lent: &mut Lent,
-    smp: impl Fn(&mut [u8], &mut [u8], u32, u32, &[u8], &mut [u8], &mut [u8]) -> Answered,
+    smp: impl Fn(&mut [u8], &mut [u8], u32, u32, u32, u32, &[u8], &mut [u8], &mut [u8]) -> Answered,
 ) -> [u64; 4] {
     let Lent { phys, permissions, message, response, set, .. } = lent;
-    let answer = smp(phys, permissions, ARRIVING, 0, message, response, set);
+    let answer = smp(phys, permissions, ARRIVING, 0, EXPANDER_CHANGES, PHY_CHANGES, message, response, set);
     [answer.refusal, answer.result, answer.length, answer.count].map(u64::from)
 }
 
 /// One leaving for each phy.
 #[inline]
 fn leaving(lent: &mut Lent, leaving: impl Fn(&mut [u8], u32) -> u32) -> [u64; 4] {
-    let phys = 0..lent.phys.len() as u32 / 12;
+    let phys = 0..(lent.phys.len() / RECORD) as u32;
     [phys.map(|phy| u64::from(leaving(&mut lent.phys, phy))).sum(), 0, 0, 0]
 }
 
 /// One IDENTIFY with the same, other address for each phy.
 #[inline]
-fn identify(lent: &mut Lent, identify: impl Fn(&mut [u8], u32, &[u8]) -> u32) -> [u64; 4] {
-    let phys = 0..lent.phys.len() as u32 / 12;
-    [phys.map(|phy| u64::from(identify(&mut lent.phys, phy, &lent.message))).sum(), 0, 0, 0]
+fn identify(lent: &mut Lent, identify: impl Fn(&mut [u8], u32, &[u8], u32, u32) -> u32) -> [u64; 4] {
+    let phys = 0..(lent.phys.len() / RECORD) as u32;
+    let one = |phy| u64::from(identify(&mut lent.phys, phy, &lent.message, DEVICE, ATTACHED_PHY));
+    [phys.map(one).sum(), 0, 0, 0]
 }
 
 /// The addresses of one maker differ in their last bytes only.
@@ -147,7 +157,7 @@ const NOWHERE: usize = 0xffff;
 
 /// A shelf of this size. All phys are ready, and phy 0 is in group 1, which reaches all groups.
 fn shelf(phys: usize, routes: usize) -> Lent {
-    let phy = |i: usize| [&[i as u8 % 16, 1 + (i % 100) as u8, 0b11, 0][..], &address(i)].concat();
+    let phy = |i: usize| [&[i as u8 % 16, 1 + (i % 100) as u8, 0b11, 0][..], &address(i), &[1, i as u8, 0, 0]].concat();
     let route = |i: usize| [&address(128 + i)[..], &[(i % phys) as u8, (i % 128) as u8, i as u8 % 16, 0]].concat();
     Lent {
         phys: (0..phys).flat_map(phy).collect(),
@@ -167,8 +177,8 @@ fn small_shelf(phys: usize) -> Lent {
 
 /// With a route to the phy with the highest number as the last one.
 fn open_to(mut lent: Lent, destination: usize) -> Lent {
-    let last_phy = (lent.phys.len() / 12 - 1) as u8;
-    if let Some(last) = lent.routes.as_chunks_mut::<12>().0.last_mut() {
+    let last_phy = (lent.phys.len() / RECORD - 1) as u8;
+    if let Some(last) = lent.routes.as_chunks_mut::<ROUTE>().0.last_mut() {
         last[8] = last_phy;
     }
     lent.message = vec![0x01; 28];
@@ -179,16 +189,16 @@ fn open_to(mut lent: Lent, destination: usize) -> Lent {
 /// Ports of so many phys each, side by side, whose addresses are one maker's and in no order.
 fn ports_of(mut lent: Lent, width: usize) -> Lent {
     let mut random = Random::new(3);
-    for port in lent.phys.as_chunks_mut::<12>().0.chunks_mut(width) {
+    for port in lent.phys.as_chunks_mut::<RECORD>().0.chunks_mut(width) {
         let address = 0x5000_c500_0000_0000 | random.number() >> 24;
-        port.iter_mut().for_each(|record| record[4..].copy_from_slice(&address.to_be_bytes()));
+        port.iter_mut().for_each(|record| record[4..12].copy_from_slice(&address.to_be_bytes()));
     }
     lent
 }
 
 /// No phy has an address, so each is a port by itself.
 fn no_addresses(mut lent: Lent) -> Lent {
-    lent.phys.as_chunks_mut::<12>().0.iter_mut().for_each(|record| record[4..].fill(0));
+    lent.phys.as_chunks_mut::<RECORD>().0.iter_mut().for_each(|record| record[4..12].fill(0));
     lent
 }
 
@@ -196,8 +206,8 @@ fn no_addresses(mut lent: Lent) -> Lent {
 /// lower.
 fn one_slot(mut lent: Lent) -> Lent {
     let mut addresses = (0x5000_c500_0000_0000..).filter(|&address: &u64| slot_of(address) == 7);
-    for record in lent.phys.as_chunks_mut::<12>().0 {
-        record[4..].copy_from_slice(&addresses.next().unwrap().to_be_bytes());
+    for record in lent.phys.as_chunks_mut::<RECORD>().0 {
+        record[4..12].copy_from_slice(&addresses.next().unwrap().to_be_bytes());
     }
     lent
 }
@@ -207,7 +217,7 @@ fn half_told(mut lent: Lent) -> Lent {
     let mut random = Random::new(1);
     lent.permissions[16..32].fill(0);
     lent.permissions[31] = 0b110;
-    for record in lent.phys.as_chunks_mut::<12>().0.iter_mut().skip(1) {
+    for record in lent.phys.as_chunks_mut::<RECORD>().0.iter_mut().skip(1) {
         record[1] = if random.percent(50) { 1 } else { 3 };
     }
     lent
@@ -253,7 +263,7 @@ fn report(mut lent: Lent, rows: usize) -> Lent {
 }
 
 fn other_address(mut lent: Lent) -> Lent {
-    lent.phys.as_chunks_mut::<12>().0.iter_mut().for_each(|record| record[2] = 0b10);
+    lent.phys.as_chunks_mut::<RECORD>().0.iter_mut().for_each(|record| record[2] = 0b10);
     lent.message = address(NOWHERE).to_vec();
     lent
 }
@@ -385,7 +395,7 @@ fn case(name: &str, pair: Pair, lent: Lent, runs: Runs) -> Row {
             let repeat = repeats(pair, &mut work, &lent);
             (repeat, repeat)
         }
-        Runs::OneForEachPhy => (1, lent.phys.len() / 12),
+        Runs::OneForEachPhy => (1, lent.phys.len() / RECORD),
     };
     let mut times = [const { Vec::new() }; 2];
     for round in 0..ROUNDS {

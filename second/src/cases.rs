@@ -5,6 +5,7 @@ use crate::large::{broadcast_frame, elect, identify, leaving, open, primitive, s
 use crate::tables::RECORD;
 use crate::{Answered, Elected, Opened, Told};
 
+mod discover;
 mod outside;
 mod ports;
 mod small;
@@ -220,8 +221,8 @@ fn earlier_records_stay_when_a_later_descriptor_fails() {
 fn the_right_is_asked_before_the_length() {
     let mut rack = Rack::default();
     let cut = |function| [0x40, function, 0, 9];
-    assert_eq!([0x93, 0xc1, 0x51, 0x10].map(|f| result(&mut rack, 2, &cut(f))), [2, 1, 1, 1]);
-    assert_eq!([0x93, 0xc1, 0x51, 0x10].map(|f| result(&mut rack, 0, &cut(f))), [3, 3, 3, 1]);
+    assert_eq!([0x93, 0xc1, 0x51, 0x11].map(|f| result(&mut rack, 2, &cut(f))), [2, 1, 1, 1]);
+    assert_eq!([0x93, 0xc1, 0x51, 0x11].map(|f| result(&mut rack, 0, &cut(f))), [3, 3, 3, 1]);
 }
 
 #[test]

@@ -1,6 +1,7 @@
-//! SMP: the three functions and everything around them.
+//! SMP: document 01's three functions and everything around them. DISCOVER is in `discover`.
 
 use crate::broadcast::{phy_set, write_set, SET};
+use crate::discover::{discover, Changes};
 use crate::permission::{may_change_zoning, show_rows, write_pair, write_row, FIRST_NAMED};
 use crate::refusals::{arriving_phy, ready, refuse_if, room, Refusal};
 use crate::speaking::source_from_outside;
@@ -11,15 +12,16 @@ pub const RESPONSE_TYPE: u8 = 0x41;
 pub const CONFIGURE_PHY_ZONE: u8 = 0x93;
 pub const CONFIGURE_ZONE_PERMISSION: u8 = 0xc1;
 pub const REPORT_ZONE_PERMISSION: u8 = 0x51;
+pub const DISCOVER: u8 = 0x10;
 
 /// The room that a response needs: that of the longest report.
 pub const RESPONSE: usize = 1020;
 
-const HEADER: usize = 4;
+pub(crate) const HEADER: usize = 4;
 const REPORT_HEADER: usize = 12;
 const LARGEST_REPORT: usize = 63;
 
-/// Refusal 8 never occurs: every other length field is 0.
+/// Refusal 8 never occurs: every other length field is 0, but for DISCOVER's 1Ah.
 pub const LONGEST_LENGTH_FIELD: usize = report_length_field(LARGEST_REPORT);
 const _: () = assert!(LONGEST_LENGTH_FIELD <= 255);
 
@@ -29,18 +31,19 @@ const fn report_length_field(rows: usize) -> usize {
 
 /// The results that turn a request down.
 #[derive(Clone, Copy, Debug, PartialEq, Eq)]
-enum TurnedDown {
+pub(crate) enum TurnedDown {
     UnknownFunction = 0x01,
     Failed = 0x02,
     InvalidRequestLength = 0x03,
     PhyDoesNotExist = 0x10,
     IndexDoesNotExist = 0x11,
+    PhyVacant = 0x16,
 }
 
 /// What an accepted request leads to, beside the tables it changed.
-struct Accepted {
-    length: usize,
-    told: u128,
+pub(crate) struct Accepted {
+    pub length: usize,
+    pub told: u128,
 }
 
 #[derive(Clone, Copy, Debug, Default, PartialEq, Eq)]
@@ -90,14 +93,15 @@ fn try_smp<const WIDTH: usize>(
     refuse_if(request[0] != REQUEST_TYPE, Refusal::Kind)?;
     let carried = u8::try_from(carried).map_err(|_| Refusal::Kind)?;
     let source = source_from_outside(&arriving, carried)?;
-    u16::try_from(expander_changes).map_err(|_| Refusal::Kind)?;
-    u8::try_from(phy_changes).map_err(|_| Refusal::Kind)?;
+    let expander = u16::try_from(expander_changes).map_err(|_| Refusal::Kind)?;
+    let changes = Changes { expander, phy: u8::try_from(phy_changes).map_err(|_| Refusal::Kind)? };
 
     let right = may_change_zoning(rows, source);
     let answer = match request[1] {
         CONFIGURE_PHY_ZONE => configure_phy_zone::<WIDTH>(phys, right, request),
         CONFIGURE_ZONE_PERMISSION => configure_zone_permission(phys, rows, right, request),
         REPORT_ZONE_PERMISSION => report_zone_permission(rows, right, request, response),
+        DISCOVER => discover(phys, rows, source, changes, request, response),
         _ => Err(TurnedDown::UnknownFunction),
     };
     Ok(respond(request[1], answer, response, set))
@@ -120,7 +124,7 @@ fn respond(function: u8, answer: Result<Accepted, TurnedDown>, response: &mut [u
     }
 }
 
-fn turn_down_if(cause: bool, result: TurnedDown) -> Result<(), TurnedDown> {
+pub(crate) fn turn_down_if(cause: bool, result: TurnedDown) -> Result<(), TurnedDown> {
     if cause {
         Err(result)
     } else {

@@ -22,13 +22,14 @@ const BAD_DESTINATION: [u64; 2] = [2, 0];
 const ZONE_VIOLATION: [u64; 2] = [3, 0];
 
 /// One good request of each function, and functions that are not known.
-const REQUESTS: [&[u8]; 7] = [
+const REQUESTS: [&[u8]; 8] = [
     &[0x40, 0x93, 0, 2, 0, 0, 2, 1, 0x00, 0x07, 0, 0],
     &[0x40, 0xc1, 0, 2, 0, 0, 0x03, 0x84, 0, 0x81, 0, 0],
     &[0x40, 0xc1, 0, 2, 0, 0, 0, 0, 0, 0x91, 2, 0],
     &[0x40, 0x51, 0, 1, 0, 0, 0, 5],
-    &[0x40, 0x00, 0, 0],
     &[0x40, 0x10, 0, 2, 0, 0, 0, 0, 0, 0, 0, 0],
+    &[0x40, 0x00, 0, 0],
+    &[0x40, 0x11, 0, 2, 0, 0, 0, 0, 0, 0, 0, 0],
     &[0x40, 0xff, 0, 0],
 ];
 
@@ -123,7 +124,7 @@ fn a_carried_byte_above_127_is_refused_5_on_a_participating_phy() {
 fn a_carried_127_is_a_group() {
     let [mut large, small] = both();
     let results = |shelf: &Shelf| {
-        [0x93, 0xc1, 0x51, 0x10].map(|function| {
+        [0x93, 0xc1, 0x51, 0x11].map(|function| {
             let answer = shelf.ask(PARTICIPATING, 127, &[0x40, function, 0, 9]);
             assert_eq!(answer.refusal(), 0);
             answer.fields[1]

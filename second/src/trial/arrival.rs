@@ -45,6 +45,16 @@ impl Arrival<'_> {
         self.profile.permitted(self.permissions, self.source, destination)
     }
 
+    /// Whether this group reaches the source group.
+    pub fn is_reached_by(&self, group: Group) -> bool {
+        self.would_reach(group, self.source)
+    }
+
+    /// P of two groups, whoever is speaking.
+    pub fn would_reach(&self, a: Group, b: Group) -> bool {
+        self.profile.permitted(self.permissions, a, b)
+    }
+
     pub fn may_change_zoning(&self) -> bool {
         self.profile.may_change_zoning(self.permissions, self.source)
     }

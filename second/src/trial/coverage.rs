@@ -3,8 +3,9 @@
 use super::arrival::{that_apply, Arrival, Classes};
 use super::call::{Answer, Call, NAMES};
 use super::profile::Profile;
-use super::{outside, ports, small};
-use crate::smp::{CONFIGURE_PHY_ZONE, CONFIGURE_ZONE_PERMISSION, REPORT_ZONE_PERMISSION};
+use super::{discover, outside, ports, small};
+use crate::smp::{CONFIGURE_PHY_ZONE, CONFIGURE_ZONE_PERMISSION, DISCOVER, REPORT_ZONE_PERMISSION};
+use crate::speaking::source_from_outside;
 use crate::tables::{phy_table, route_table, PhyRecord};
 use std::collections::BTreeMap;
 use std::fmt;
@@ -23,6 +24,7 @@ const REQUIRED: [(&str, &[&str]); 17] = [
             "refused 2",
             "refused 4",
             "refused 5",
+            "refused 5, a number too wide",
             "refused 7",
         ],
     ),
@@ -93,6 +95,10 @@ const REQUIRED: [(&str, &[&str]); 17] = [
             "51h 01h",
             "51h 03h",
             "51h 11h",
+            "DISCOVER 00h",
+            "DISCOVER 03h",
+            "DISCOVER 10h",
+            "DISCOVER 16h",
             "other function",
             "refused 1",
             "refused 2",
@@ -101,6 +107,7 @@ const REQUIRED: [(&str, &[&str]); 17] = [
             "refused 5",
             "refused 5, no byte",
             "refused 5, no group",
+            "refused 5, a count too wide",
             "refused 7",
         ],
     ),
@@ -142,7 +149,7 @@ impl Coverage {
     pub fn missing(&self) -> Vec<String> {
         let place = |name| NAMES.iter().position(|known| *known == name).expect("a call's name");
         let of_small = if self.profile == Profile::Small { &small::REQUIRED[..] } else { &[] };
-        let required = REQUIRED.iter().chain(&outside::REQUIRED).chain(of_small);
+        let required = REQUIRED.iter().chain(&outside::REQUIRED).chain(&discover::REQUIRED).chain(of_small);
         let all = required.flat_map(|(name, classes)| classes.iter().map(move |class| (*name, *class)));
         let missing = all.filter(|&(name, class)| !self.answers.contains_key(&(place(name), class)));
         missing.map(|(name, class)| format!("{name}: {class}")).collect()
@@ -152,7 +159,7 @@ impl Coverage {
 impl fmt::Display for Coverage {
     fn fmt(&self, f: &mut fmt::Formatter) -> fmt::Result {
         for ((place, class), count) in &self.answers {
-            writeln!(f, "{:16} {class:47} {count:9}", NAMES[*place])?;
+            writeln!(f, "{:16} {class:50} {count:9}", NAMES[*place])?;
         }
         Ok(())
     }
@@ -168,6 +175,7 @@ fn classes(profile: Profile, call: &Call, answer: &Answer) -> Classes {
         _ => {}
     }
     classes.extend(outside::classes(profile, call, answer));
+    classes.extend(discover::classes(profile, call, answer));
     classes
 }
 
@@ -203,13 +211,17 @@ fn class(profile: Profile, call: &Call, answer: &Answer) -> &'static str {
 
 fn refused_5(call: &Call) -> &'static str {
     match call {
-        Call::Smp { request, carried, .. } if request[0] == 0x40 => {
-            if *carried > 255 {
-                "refused 5, no byte"
-            } else {
-                "refused 5, no group"
+        Call::Smp { phys, phy, request, carried, expander_changes, phy_changes, .. } if request[0] == 0x40 => {
+            let fit = discover::counts_fit(*expander_changes, *phy_changes);
+            let source = u8::try_from(*carried).map(|byte| source_from_outside(&record(phys, *phy), byte));
+            match source {
+                Err(_) if fit => "refused 5, no byte",
+                Ok(Err(_)) if fit => "refused 5, no group",
+                Ok(Ok(_)) => "refused 5, a count too wide",
+                _ => "refused 5, several causes",
             }
         }
+        Call::Identify { address, .. } if *address != [0; 8] => "refused 5, a number too wide",
         Call::BroadcastFrame { frame, .. } if matches!(frame[0] & 0x0f, 2 | 3) => "refused 5, no group",
         _ => "refused 5",
     }
@@ -304,6 +316,7 @@ fn by_function(request: &[u8], answer: &Answer, right: bool) -> &'static str {
         CONFIGURE_PHY_ZONE => configured_phys(request, result, right),
         CONFIGURE_ZONE_PERMISSION => configured_permission(request, result),
         REPORT_ZONE_PERMISSION => reported(answer, result),
+        DISCOVER => discovered(result),
         _ => "other function",
     }
 }
@@ -350,6 +363,16 @@ fn reported(answer: &Answer, result: u64) -> &'static str {
         (3, _) => "51h 03h",
         (0x11, _) => "51h 11h",
         _ => "51h another result",
+    }
+}
+
+fn discovered(result: u64) -> &'static str {
+    match result {
+        0 => "DISCOVER 00h",
+        3 => "DISCOVER 03h",
+        0x10 => "DISCOVER 10h",
+        0x16 => "DISCOVER 16h",
+        _ => "DISCOVER another result",
     }
 }
 

@@ -2,7 +2,7 @@
 
 use super::profile::Profile;
 use super::random::Random;
-use super::requests::{broadcast_frame, damage_frame, group_byte, open_frame, request};
+use super::requests::{broadcast_frame, damage_frame, group_byte, open_frame};
 use super::shelf::{Shelf, BASE};
 use crate::bench::{Event, Rack, BROADCAST_FRAME, IDENTIFY, LEAVING, OPEN, PRIMITIVE, SMP};
 use crate::speaking::source_from_outside;
@@ -50,8 +50,8 @@ pub fn damage(random: &mut Random, stream: &mut [u8]) {
 fn event(random: &mut Random, shelf: &Shelf) -> (u8, u8, u8, Vec<u8>) {
     let (kind, phy, mut payload) = match random.below(40) {
         0..=14 => {
-            let (phy, carried) = shelf.speaker(random);
-            return (SMP, unlikely_phy(random, phy), carried, request(random, shelf.profile, shelf.count()));
+            let (phy, carried, request) = shelf.asks(random);
+            return (SMP, unlikely_phy(random, phy), carried, request);
         }
         15..=22 => open(random, shelf),
         23..=26 => (PRIMITIVE, ready_phy(random, shelf), vec![primitive_number(random)]),

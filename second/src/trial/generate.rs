@@ -3,7 +3,7 @@
 use super::call::{Answer, Call};
 use super::profile::Profile;
 use super::random::Random;
-use super::requests::{broadcast_frame, damage_frame, open_frame, request};
+use super::requests::{broadcast_frame, damage_frame, open_frame};
 use super::shelf::Shelf;
 use crate::tables::RECORD;
 
@@ -42,7 +42,7 @@ impl Generator {
             self.left = self.random.between(1, 60);
         }
         self.left -= 1;
-        let mut call = match self.random.below(40) {
+        let mut call = match self.random.below(44) {
             0 => self.start_up(),
             1..=3 => self.leaving(),
             4..=7 => self.identify(),
@@ -153,8 +153,7 @@ impl Generator {
     }
 
     fn smp(&mut self) -> Call {
-        let (phy, carried) = self.shelf.speaker(&mut self.random);
-        let request = request(&mut self.random, self.shelf.profile, self.shelf.count());
+        let (phy, carried, request) = self.shelf.asks(&mut self.random);
         Call::Smp {
             phys: self.shelf.phys.clone(),
             permissions: self.shelf.permissions.clone(),
@@ -334,9 +333,10 @@ fn damage_number(random: &mut Random, call: &mut Call) {
             }
         },
         Call::Open { frame, .. } | Call::BroadcastFrame { frame, .. } => damage_frame(random, frame),
-        Call::Identify { address, device_type, attached_phy, .. } => match random.below(4) {
+        Call::Identify { address, device_type, attached_phy, .. } => match random.below(6) {
             0 => *device_type = too_wide(random, 256),
             1 => *attached_phy = too_wide(random, 256),
+            2 => [*device_type, *attached_phy] = [0, 1].map(|_| too_wide(random, 256)),
             _ => address.fill(0),
         },
         _ => {}

@@ -3,6 +3,7 @@
 pub mod arrival;
 pub mod call;
 pub mod coverage;
+pub mod discover;
 pub mod events;
 pub mod generate;
 pub mod outside;

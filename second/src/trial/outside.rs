@@ -3,8 +3,9 @@
 
 use super::arrival::{is_in, that_apply, Classes};
 use super::call::{Answer, Call};
+use super::discover::counts_fit;
 use super::profile::Profile;
-use crate::smp::{CONFIGURE_PHY_ZONE, CONFIGURE_ZONE_PERMISSION, REPORT_ZONE_PERMISSION, REQUEST_TYPE};
+use crate::smp::{CONFIGURE_PHY_ZONE, CONFIGURE_ZONE_PERMISSION, DISCOVER, REPORT_ZONE_PERMISSION, REQUEST_TYPE};
 use crate::tables::{Group, PhyRecord, Record, Route, RouteRecord};
 use std::cmp::Ordering;
 
@@ -50,10 +51,11 @@ const FRAME: [&str; 11] = [
     "told a phy, byte 1 above 127",
 ];
 
-const SMP: [&str; 18] = [
+const SMP: [&str; 19] = [
     "93h refused 5, no group",
     "C1h refused 5, no group",
     "51h refused 5, no group",
+    "DISCOVER refused 5, no group",
     "other function refused 5, no group",
     "refused 5, no group, a right modulo 128",
     "refused 5, no group, no right modulo 128",
@@ -81,6 +83,10 @@ pub fn classes(profile: Profile, call: &Call, answer: &Answer) -> Classes {
         (Call::Primitive { phys, phy, .. }, 0) => told(phys.as_chunks().0, *phy as usize, answer),
         (Call::BroadcastFrame { phys, phy, frame, .. }, 0 | 4..) => {
             framed(phys.as_chunks().0, *phy as usize, frame, answer)
+        }
+        // A count that does not fit is another cause of 5: what it goes with is in other classes.
+        (Call::Smp { expander_changes, phy_changes, .. }, 5) if !counts_fit(*expander_changes, *phy_changes) => {
+            Vec::new()
         }
         (Call::Smp { phys, permissions, phy, carried, request, .. }, 0 | 4..) => {
             let record = &phys.as_chunks().0[*phy as usize];
@@ -248,6 +254,7 @@ fn by_function(function: u8) -> &'static str {
         CONFIGURE_PHY_ZONE => "93h refused 5, no group",
         CONFIGURE_ZONE_PERMISSION => "C1h refused 5, no group",
         REPORT_ZONE_PERMISSION => "51h refused 5, no group",
+        DISCOVER => "DISCOVER refused 5, no group",
         _ => "other function refused 5, no group",
     }
 }

@@ -3,7 +3,7 @@
 use super::profile::Profile;
 use super::random::Random;
 use crate::permission::FIRST_NAMED;
-use crate::smp::{CONFIGURE_PHY_ZONE, CONFIGURE_ZONE_PERMISSION, REPORT_ZONE_PERMISSION, REQUEST_TYPE};
+use crate::smp::{CONFIGURE_PHY_ZONE, CONFIGURE_ZONE_PERMISSION, DISCOVER, REPORT_ZONE_PERMISSION, REQUEST_TYPE};
 
 /// Groups at the edges, and a few that meet often.
 const GROUPS: [u8; 12] = [0, 1, 1, 2, 3, 7, 8, 8, 9, 64, 126, 127];
@@ -56,7 +56,7 @@ fn header(random: &mut Random, function: u8, length: usize) -> Vec<u8> {
     vec![REQUEST_TYPE, function, reserved(random), length as u8, reserved(random), reserved(random)]
 }
 
-/// A request of any function for a shelf with this many phys.
+/// A request of any function but DISCOVER for a shelf with this many phys.
 pub fn request(random: &mut Random, profile: Profile, phys: usize) -> Vec<u8> {
     let mut request = match random.below(20) {
         0..=5 => configure_phy_zone(random, profile, phys),
@@ -209,8 +209,38 @@ pub fn report(random: &mut Random) -> Vec<u8> {
     request
 }
 
+/// A DISCOVER for a phy of a shelf with this many, or for one beyond. All bytes that no rule reads are zero or anything.
+pub fn discover(random: &mut Random, phys: usize) -> Vec<u8> {
+    let mut request = if random.percent(40) { vec![0; 12] } else { random.bytes(12) };
+    request[..2].copy_from_slice(&[REQUEST_TYPE, DISCOVER]);
+    request[3] = match random.below(20) {
+        0 => random.pick(&[1, 3, 0x1a, 0xff]),
+        1..=6 => 0,
+        _ => 2,
+    };
+    let beside = if random.percent(10) { 0xfe } else { request[8] & 0xfe };
+    request[8] = beside | u8::from(random.percent(35));
+    request[9] = match random.below(16) {
+        0..=1 => phys - 1,
+        2 => phys,
+        3 => random.pick(&[127, 128, 255]),
+        4 => random.below(phys) | 0x80,
+        _ => random.below(phys),
+    } as u8;
+    if random.percent(6) {
+        let length = random.pick(&[4, 8, 11, 13, 16, 12 + 1024]);
+        request.resize(length, 0);
+        if random.percent(50) {
+            request[3] = (length / 4 - 1) as u8;
+        }
+    } else if random.percent(10) {
+        damage(random, &mut request);
+    }
+    request
+}
+
 fn other_function(random: &mut Random) -> Vec<u8> {
-    let function = random.pick(&[0x00, 0x10, 0x13, 0x50, 0x52, 0x90, 0x91, 0x92, 0x94, 0xc0, 0xc2, 0xff]);
+    let function = random.pick(&[0x00, 0x0f, 0x11, 0x13, 0x50, 0x52, 0x90, 0x91, 0x92, 0x94, 0xc0, 0xc2, 0xff]);
     let function = if random.percent(30) { random.byte() } else { function };
     let length = random.below(24);
     let mut request = header(random, function, length / 4);

@@ -2,7 +2,7 @@
 
 use super::profile::Profile;
 use super::random::Random;
-use super::requests::{byte_from_outside, group, group_byte, reserved};
+use super::requests::{byte_from_outside, discover, group, group_byte, request, reserved};
 use crate::bench::Rack;
 use crate::speaking::source_from_outside;
 use crate::tables::{PhyRecord, Route, DEVICE_TYPE, RECORD, ROUTE};
@@ -65,10 +65,22 @@ impl Shelf {
         phy
     }
 
-    /// A ready phy and a carried byte, mostly with the right to change zoning. On a participating phy that byte is at
-    /// times no group, mostly one that would have the right if it were taken modulo 128.
-    pub fn speaker(&self, random: &mut Random) -> (usize, u8) {
-        let want_right = random.percent(85);
+    /// An SMP request, the phy on which it arrives and the byte that is carried with it. DISCOVER asks for no right, and
+    /// those who have it mostly reach all groups: so it mostly comes from others.
+    pub fn asks(&self, random: &mut Random) -> (usize, u8, Vec<u8>) {
+        let (right, request) = if random.percent(25) {
+            (25, discover(random, self.count()))
+        } else {
+            (85, request(random, self.profile, self.count()))
+        };
+        let (phy, carried) = self.speaker(random, right);
+        (phy, carried, request)
+    }
+
+    /// A ready phy and a carried byte; so many in a hundred should have the right to change zoning. On a participating
+    /// phy that byte is at times no group, mostly one that would have the right if it were taken modulo 128.
+    fn speaker(&self, random: &mut Random, right: usize) -> (usize, u8) {
+        let want_right = random.percent(right);
         let mut speaker = (0, 0);
         for _ in 0..12 {
             let carried = byte_from_outside(random, self.profile, 15);
@@ -124,11 +136,11 @@ fn phys(random: &mut Random, profile: Profile, addresses: &[u64]) -> Vec<u8> {
             _ => table.extend(zoning(random, profile, participating)),
         }
         table.push(u8::from(random.percent(ready)) | u8::from(random.percent(80)) << 1 | reserved(random) & 0xfc);
-        table.push(if random.percent(90) { 0 } else { random.byte() });
+        table.push(reserved(random));
         table.extend(address.to_be_bytes());
         table.push(random.byte() & DEVICE_TYPE | reserved(random) & !DEVICE_TYPE);
         table.push(if random.percent(20) { 0 } else { random.byte() });
-        table.extend([0, 1].map(|_| if random.percent(90) { 0 } else { random.byte() }));
+        table.extend([reserved(random), reserved(random)]);
     }
     table
 }

@@ -4,21 +4,22 @@
 use super::arrival::{is_in, that_apply, Arrival, Classes};
 use super::call::{Answer, Call};
 use super::ports::found;
-use crate::smp::{CONFIGURE_PHY_ZONE, CONFIGURE_ZONE_PERMISSION, REPORT_ZONE_PERMISSION};
+use crate::smp::{CONFIGURE_PHY_ZONE, CONFIGURE_ZONE_PERMISSION, DISCOVER, REPORT_ZONE_PERMISSION};
 use crate::tables::{Group, Route};
 
 /// All classes that a run on the small shelf must reach beside those of both shelves, by call.
-pub const REQUIRED: [(&str, &[&str]); 7] = [
+pub const REQUIRED: [(&str, &[&str]); 8] = [
     ("open", &JUDGED),
     ("open", &OPEN),
     ("primitive", &JUDGED),
     ("broadcast_frame", &JUDGED),
+    ("smp", &JUDGED),
     ("smp", &PHY_ZONE),
     ("smp", &ZONE_PERMISSION),
     ("smp", &REPORT),
 ];
 
-/// Of two groups, whether the first reaches the second: an OPEN is forwarded, a phy told, or not.
+/// Of two groups, whether the first reaches the second: an OPEN is forwarded, a phy told, one shown by DISCOVER, or not.
 const JUDGED: [&str; 12] = [
     "on: 1 to above 7",
     "on: above 7 to 1",
@@ -157,6 +158,10 @@ fn answered(arrival: &Arrival, request: &[u8], answer: &Answer) -> Classes {
         REPORT_ZONE_PERMISSION if result == 0 => reported(&answer.buffers[2]),
         REPORT_ZONE_PERMISSION => {
             that_apply(&[("51h 01h source group above 7", result == 1 && is_above(arrival.source))])
+        }
+        // Where the zoning is not ignored, it decides between these two.
+        DISCOVER if (result == 0 || result == 0x16) && request[8] & 1 == 0 => {
+            judged(arrival, arrival.record(usize::from(request[9])).group, result == 0)
         }
         _ => Vec::new(),
     }

@@ -104,13 +104,42 @@ large 'no group: a frame refused 5 on a phy that is not participating' broadcast
     'Group::from_outside(frame[GROUP_BYTE]).ok_or(Refusal::Kind)?; refuse_if(!arriving.participating,'
 large 'no group: a skipped route ends the search' open.rs 'find_map(\(.*\))' 'next().and_then(\1)'
 large 'no group: an unknown function answered' smp.rs 'source_from_outside(&arriving, carried)?' \
-    'match request[1] { 0x93 | 0xc1 | 0x51 => source_from_outside(\&arriving, carried)?, _ => arriving.group }'
+    'match request[1] { 0x93 | 0xc1 | 0x51 | 0x10 => source_from_outside(\&arriving, carried)?, _ => arriving.group }'
 large 'no group: refused before the length' smp.rs 'refuse_if(request\.len() < HEADER,' \
     'source_from_outside(\&arriving, carried as u8)?; refuse_if(request.len() < HEADER,'
 large 'no group: byte 20 of an OPEN as well' open.rs 'let source = source_of_open' \
     'if arriving.participating { Group::from_outside(frame[ZONE_BYTE]).ok_or(Refusal::Kind)?; } let source = source_of_open'
 large 'no group: byte 1 of a phy record as well' open.rs '\.map(PhyRecord::from)' \
     '.map(|record| PhyRecord { ready: record[2] \& 1 == 1 \&\& record[1] <= 127, ..record.into() })'
+# DISCOVER, and the numbers that came with it.
+large 'DISCOVER: attached fields shown for a phy that is not ready' discover.rs 'if phy\.ready {' 'if true {'
+for shelf in large small; do
+    $shelf 'DISCOVER: P asked the other way round' discover.rs 'permitted(rows, source, phy\.group)' \
+        'permitted(rows, phy.group, source)'
+done
+large 'DISCOVER: 16h before 10h' discover.rs 'let record = phys' \
+    'turn_down_if(request[8] \& 1 == 0 \&\& !phys.get(usize::from(asked)).is_some_and(|phy| permitted(rows, source, PhyRecord::from(phy).group)), TurnedDown::PhyVacant)?; let record = phys'
+large 'DISCOVER: the ignore bit the other way round' discover.rs '& IGNORE_ZONE_GROUP != 0' '\& IGNORE_ZONE_GROUP == 0'
+large 'DISCOVER: the ignore bit is bit 1' discover.rs 'const IGNORE_ZONE_GROUP: u8 = 1 << 0' \
+    'const IGNORE_ZONE_GROUP: u8 = 1 << 1'
+large 'DISCOVER: the right asked' discover.rs 'let asked = request\[9\]' \
+    'turn_down_if(!crate::permission::may_change_zoning(rows, source), TurnedDown::UnknownFunction)?; let asked = request[9]'
+large 'DISCOVER: a member sees its own group' discover.rs '!permitted(rows, source, phy\.group)' \
+    'source != phy.group \&\& !permitted(rows, source, phy.group)'
+large 'DISCOVER: the low 7 bits of byte 9' discover.rs 'usize::from(asked)' 'usize::from(asked \& 0x7f)'
+large 'DISCOVER: byte 3 of zero turned down' discover.rs '\[0x02, 0x00\]' '[0x02, 0x02]'
+large 'DISCOVER: the two counts swapped' discover.rs 'let asked = request' \
+    'let changes = Changes { expander: changes.phy.into(), phy: changes.expander as u8 }; let asked = request'
+large 'DISCOVER: the least significant byte first' discover.rs 'changes\.expander\.to_be_bytes()' \
+    'changes.expander.to_le_bytes()'
+large "IDENTIFY: the type's high bits kept" links.rs 'device_type & DEVICE_TYPE' 'device_type'
+large 'IDENTIFY: reserved bits of byte 12 stay' links.rs 'record\[12\] = ' 'record[12] = record[12] \& 0xf8 | '
+large 'IDENTIFY: a wide number refused before the length' links.rs 'let address: \[u8; 8\]' \
+    'refuse_if(device_type > 255, Refusal::Kind)?; let address: [u8; 8]'
+large 'a wide phy count refused for DISCOVER alone' smp.rs 'u8::try_from(phy_changes)\.map_err(|_| Refusal::Kind)?' \
+    'if request[1] == DISCOVER { u8::try_from(phy_changes).map_err(|_| Refusal::Kind)? } else { 0 }'
+small 'DISCOVER: groups above 7 shown to all' discover.rs '!permitted(rows, source, phy\.group)' \
+    'phy.group.is_in_table(WIDTH) \&\& !permitted(rows, source, phy.group)'
 small 'groups modulo 8' permission.rs 'match rows.get(a.index()) {' \
     'let [a, b] = [a, b].map(|group| Group::low_7_bits(group.number() % 8)); match rows.get(a.index()) {'
 small 'groups 8 and 9 reach each other' permission.rs 'a.index() == GROUP_1 || b.index() == GROUP_1' \

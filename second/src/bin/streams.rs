@@ -2,8 +2,8 @@
 //!
 //! streams BENCH-COMMAND [STREAMS] [SEED]
 //!
-//! The fixed streams (document 01's cases, all their beginnings, wide ports, bytes that are no group, and edges) come
-//! first, then so many random ones. Exits with 0 where all texts were equal and every kind of line was printed.
+//! The fixed streams (document 01's cases, all their beginnings, wide ports, bytes that are no group, DISCOVER, and
+//! edges) come first, then so many random ones. Exits with 0 where all texts were equal and every kind of line was printed.
 
 use second::bench::{self, Event};
 use second::trial::events::{damage, stream};
@@ -17,9 +17,9 @@ const DEFAULT_STREAMS: usize = 200;
 const DEFAULT_SEED: u64 = 6_201;
 
 /// Every kind of line. The bench lends tables and buffers of the right sizes, so 1 and 3 never occur, nor does 8.
-const LINES: [&str; 19] = [
-    "S 00", "S 01", "S 02", "S 03", "S 10", "S 11", "O ND", "O BD", "O ZV", "O FWD", "B", "L", "X 2", "X 4", "X 5",
-    "X 6", "X 7", "K", "T",
+const LINES: [&str; 20] = [
+    "S 00", "S 01", "S 02", "S 03", "S 10", "S 11", "S 16", "O ND", "O BD", "O ZV", "O FWD", "B", "L", "X 2", "X 4",
+    "X 5", "X 6", "X 7", "K", "T",
 ];
 
 struct Trial {
@@ -166,7 +166,8 @@ fn aftermath() -> Vec<u8> {
     let opens = (0..8).flat_map(|from| (0..8).map(move |to| event(2, from, &open_to(to))));
     let primitives = (0..8).map(|phy| event(3, phy, &[phy]));
     let frames = [0, 1, 2, 8, 9].map(|group| event(4, 7, &[0x03, 0, 0, group]));
-    opens.chain(primitives).chain(frames).flatten().collect()
+    let discovers = (0..8).flat_map(|from| (0..8).map(move |asked| event(1, from, &discover(0, asked))));
+    opens.chain(primitives).chain(frames).chain(discovers).flatten().collect()
 }
 
 /// These phys leave and come back with phy `to`'s address; then phy 0 gives each its bytes 0 and 1 again.
@@ -212,6 +213,53 @@ fn every_byte() -> Vec<u8> {
     (0..=255).flat_map(one).collect()
 }
 
+fn discover(byte_8: u8, asked: u8) -> [u8; 12] {
+    [0x40, 0x10, 0, 2, 0, 0, 0, 0, byte_8, asked, 0, 0]
+}
+
+/// DISCOVER of every byte as the asked phy, with both ignore bits, from phys of several groups and by what phy 7 carries.
+fn every_phy() -> Vec<u8> {
+    let from = [(0, 0), (2, 0), (4, 0), (6, 0), (7, 1), (7, 8), (7, 0), (7, 136)];
+    let one = |asked, byte_8| {
+        let request = discover(byte_8, asked);
+        from.map(|(phy, carried)| Event { kind: 1, phy, carried, payload: &request }.bytes()).concat()
+    };
+    (0..=255).flat_map(|asked| [0, 1].map(|byte_8| one(asked, byte_8))).flatten().collect()
+}
+
+/// DISCOVER of phys 4 and 2 from phy 2 with every byte 3, every byte 8, and lengths up to 20 bytes.
+fn every_length() -> Vec<u8> {
+    let of = |asked: u8| {
+        let by_byte_3 = (0..=255).map(move |byte_3| [0x40, 0x10, 0, byte_3, 0, 0, 0, 0, 0, asked, 0, 0].to_vec());
+        let by_byte_8 = (0..=255).map(move |byte_8| discover(byte_8, asked).to_vec());
+        let by_length = (0..=20).flat_map(move |length| {
+            [0, 1, 2, 3, 4].map(|byte_3| {
+                let mut request = [0x40, 0x10, 0, byte_3, 0, 0, 0, 0, 0, asked, 0, 0].to_vec();
+                request.resize(length, 0);
+                request
+            })
+        });
+        by_byte_3.chain(by_byte_8).chain(by_length)
+    };
+    [4, 2].into_iter().flat_map(of).flat_map(|request| event(1, 2, &request)).collect()
+}
+
+/// What is done before every phy is asked for. IDENTIFY with the same address brings a device type and keeps the zoning;
+/// with another address it takes the zoning away.
+fn before_discover() -> Vec<(&'static str, Vec<u8>)> {
+    let on = event(1, 0, &SINGLE);
+    let leave = |phy| event(6, phy, &[]);
+    let come = |phy: u8, to| [leave(phy), event(5, phy, &open_to(to)[4..12])].concat();
+    let all_again: Vec<u8> = (0..8).flat_map(|phy| come(phy, phy)).collect();
+    vec![
+        ("on the untouched rack", Vec::new()),
+        ("after case 1", on.clone()),
+        ("after IDENTIFY on all phys", [all_again.clone(), on.clone()].concat()),
+        ("of phys that are not ready", [all_again, on.clone(), leave(3), leave(5), leave(1)].concat()),
+        ("of phys with other addresses", [on, come(3, 4), come(5, 20), come(1, 1)].concat()),
+    ]
+}
+
 fn fixed() -> Vec<Trial> {
     let trial = |name: &str, stream| Trial { name: name.to_string(), stream };
     let cases = cases_1_to_5();
@@ -224,6 +272,9 @@ fn fixed() -> Vec<Trial> {
         trials.push(trial(name, [events, aftermath()].concat()));
     }
     trials.push(trial("every group byte", [every_byte(), aftermath()].concat()));
+    for (name, events) in before_discover() {
+        trials.push(trial(&format!("DISCOVER {name}"), [events, every_phy(), every_length(), aftermath()].concat()));
+    }
     for kind in [0, 3, 5, 6, 7, 255] {
         let lengths = [0, 1, 2, 7, 8, 9].map(|length| event(kind, 1, &vec![1; length]));
         trials.push(trial(&format!("kind {kind} of several lengths"), [lengths.concat(), aftermath()].concat()));

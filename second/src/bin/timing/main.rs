@@ -262,6 +262,21 @@ fn report(mut lent: Lent, rows: usize) -> Lent {
     lent
 }
 
+/// The last phy is asked for. It is in another group than phy 0, whose group 1 reaches it, unless it reaches no group.
+fn discover(mut lent: Lent) -> Lent {
+    let last_phy = (lent.phys.len() / RECORD - 1) as u8;
+    lent.message = vec![0x40, 0x10, 0, 2, 0, 0, 0, 0, 0, last_phy, 0, 0];
+    lent
+}
+
+/// The same on the small shelf from group 2, which does not reach group 3 at start-up.
+fn hidden_on_small(mut lent: Lent) -> Lent {
+    let last_phy = (lent.phys.len() / RECORD - 1) as u8;
+    lent.phys[1] = 2;
+    lent.phys[RECORD * usize::from(last_phy) + 1] = 3;
+    discover(lent)
+}
+
 fn other_address(mut lent: Lent) -> Lent {
     lent.phys.as_chunks_mut::<RECORD>().0.iter_mut().for_each(|record| record[2] = 0b10);
     lent.message = address(NOWHERE).to_vec();
@@ -320,6 +335,8 @@ fn hardest() -> Vec<Row> {
         case("C1h batch of 63 rows", SMP, batch(full(), 63, 127), Runs::Many),
         case("93h of 128 descriptors", SMP, configure_phys(full(), 128, 100), Runs::Many),
         case("51h of 63 rows", SMP, report(full(), 63), Runs::Many),
+        case("DISCOVER of a ready phy, 108 bytes", SMP, discover(full()), Runs::Many),
+        case("DISCOVER of a hidden phy, 16h", SMP, discover(none_told(full())), Runs::Many),
         case("election over 128 phys and 1,024 routes", ELECT, full(), Runs::Many),
         case("IDENTIFY, another address", IDENTIFY, other_address(full()), Runs::OneForEachPhy),
         case("leaving", LEAVING, full(), Runs::OneForEachPhy),
@@ -383,6 +400,8 @@ fn on_small_shelf() -> Vec<Row> {
         case("small: C1h batch of 6 rows", SMALL_SMP, batch(full(), 6, 7), Runs::Many),
         case("small: 93h of 128 descriptors", SMALL_SMP, configure_phys(full(), 128, 7), Runs::Many),
         case("small: 51h of 63 rows", SMALL_SMP, report(full(), 63), Runs::Many),
+        case("small: DISCOVER of a ready phy, 108 bytes", SMALL_SMP, discover(full()), Runs::Many),
+        case("small: DISCOVER of a hidden phy, 16h", SMALL_SMP, hidden_on_small(full()), Runs::Many),
     ]);
     rows
 }

@@ -1,11 +1,14 @@
-/* Cases 1 and 2 of the scope document on the bench rack, then a port of two phys, then the group that is carried for SMP, through shelf.h.
- * The output is in case.txt. */
+/* Cases 1 and 2 of the scope document on the bench rack with what a member's phy sees before and after, then a port of two phys, then the
+ * group that is carried for SMP, through shelf.h. The output is in case.txt. */
 #include <shelf.h>
 
 #include <stdio.h>
 #include <string.h>
 
-enum { PHYS = 8, RECORD = 12 };
+enum { PHYS = 8, RECORD = 16 };
+
+/* What this caller hands in: the attached device's type and phy with IDENTIFY, and its counts of changes with SMP. */
+enum { END_DEVICE = 1, ATTACHED_PHY = 0, EXPANDER_CHANGES = 0, PHY_CHANGES = 0 };
 
 static uint8_t phys[PHYS * RECORD], permissions[2048];
 static const uint8_t no_routes[1];
@@ -46,13 +49,38 @@ static void open_to(unsigned from, int to) {
 static void switch_on_8_and_9(void) {
     static const uint8_t request[] = {0x40, 0xC1, 0, 2, 0, 0, 0x08, 0x89, 0, 0x81, 0, 0};
     uint8_t response[1020], set[16];
-    struct shelf_answered answer = shelf_smp(phys, sizeof phys, permissions, sizeof permissions, 0, 0, request,
-                                             sizeof request, response, sizeof response, set, sizeof set);
+    struct shelf_answered answer =
+        shelf_smp(phys, sizeof phys, permissions, sizeof permissions, 0, 0, EXPANDER_CHANGES, PHY_CHANGES, request,
+                  sizeof request, response, sizeof response, set, sizeof set);
     printf("SMP from phy 0: refusal %u, result %02X, %u bytes, %u phys told\n", answer.refusal, answer.result,
            answer.length, answer.count);
     if (answer.refusal == 0)
         printf("response %02X %02X %02X %02X, set byte 0 is %02X\n", response[0], response[1], response[2], response[3],
                set[0]);
+}
+
+/* DISCOVER of each phy in turn, the ignore bit zero: those that the member's group does not reach are hidden. */
+static void list_from(unsigned member) {
+    printf("DISCOVER from phy %u:\n", member);
+    for (int phy = 0; phy < PHYS; phy++) {
+        const uint8_t request[] = {0x40, 0x10, 0, 2, 0, 0, 0, 0, 0, (uint8_t)phy, 0, 0};
+        uint8_t response[1020], set[16];
+        struct shelf_answered answer =
+            shelf_smp(phys, sizeof phys, permissions, sizeof permissions, member, 0, EXPANDER_CHANGES, PHY_CHANGES, request,
+                      sizeof request, response, sizeof response, set, sizeof set);
+        printf("  phy %d: ", phy);
+        if (answer.refusal != 0) {
+            printf("refusal %u\n", answer.refusal);
+        } else if (answer.result == 0x16) {
+            printf("hidden\n");
+        } else if (answer.result != 0) {
+            printf("result %02X\n", answer.result);
+        } else {
+            printf("group %u, device type %u, attached ", response[63], response[12] >> 4 & 7);
+            for (int i = 24; i < 32; i++) printf("%02X", response[i]);
+            printf("\n");
+        }
+    }
 }
 
 static void permissions_of_8_and_9(void) {
@@ -64,7 +92,8 @@ static void make_sisters(void) {
     uint8_t address[8];
     memcpy(address, address_of(2), 8);
     printf("phy 3 leaves: refusal %u\n", shelf_leaving(phys, sizeof phys, 3));
-    printf("IDENTIFY on phy 3 with phy 2's address: refusal %u\n", shelf_identify(phys, sizeof phys, 3, address, 8));
+    printf("IDENTIFY on phy 3 with phy 2's address: refusal %u\n",
+           shelf_identify(phys, sizeof phys, 3, address, 8, END_DEVICE, ATTACHED_PHY));
 }
 
 static void change_on_0(void) {
@@ -81,8 +110,9 @@ static void change_on_0(void) {
 static void ask_on_7(unsigned carried) {
     static const uint8_t request[] = {0x40, 0x93, 0, 1, 0, 0, 0, 0};
     uint8_t response[1020], set[16];
-    struct shelf_answered answer = shelf_smp(phys, sizeof phys, permissions, sizeof permissions, 7, carried, request,
-                                             sizeof request, response, sizeof response, set, sizeof set);
+    struct shelf_answered answer =
+        shelf_smp(phys, sizeof phys, permissions, sizeof permissions, 7, carried, EXPANDER_CHANGES, PHY_CHANGES, request,
+                  sizeof request, response, sizeof response, set, sizeof set);
     printf("SMP from phy 7, carried %u: refusal %u", carried, answer.refusal);
     if (answer.refusal == 0)
         printf(", result %02X", answer.result);
@@ -95,13 +125,16 @@ int main(void) {
     printf("start-up: refusal %u\n", shelf_start_up(permissions, sizeof permissions));
     permissions_of_8_and_9();
     open_to(2, 4);
+    list_from(2);
     switch_on_8_and_9();
     permissions_of_8_and_9();
     open_to(2, 4);
+    list_from(2);
     change_on_0();
     make_sisters();
     change_on_0();
     open_to(3, 2);
+    list_from(0);
     ask_on_7(byte_20);
     ask_on_7(byte_20 & 0x7F);
     return 0;

@@ -5,7 +5,7 @@
 #include <stdio.h>
 #include <string.h>
 
-enum { PHYS = 8, RECORD = 12, ROW = 16 };
+enum { PHYS = 8, RECORD = 16, ROW = 16 };
 
 static uint8_t phys[PHYS * RECORD], permissions[8];
 static const uint8_t no_routes[1];
@@ -44,7 +44,7 @@ static void open_to(unsigned from, int to) {
 static void switch_on(uint8_t a, uint8_t b) {
     const uint8_t request[] = {0x40, 0xC1, 0, 2, 0, 0, a, (uint8_t)(0x80 | b), 0, 0x80, 0, 0};
     uint8_t response[1020], set[16];
-    struct small_answered answer = small_smp(phys, sizeof phys, permissions, sizeof permissions, 0, 0, request,
+    struct small_answered answer = small_smp(phys, sizeof phys, permissions, sizeof permissions, 0, 0, 0, 0, request,
                                              sizeof request, response, sizeof response, set, sizeof set);
     printf("order for %u and %u: refusal %u, result %02X\n", a, b, answer.refusal, answer.result);
 }
@@ -53,7 +53,7 @@ static void switch_on(uint8_t a, uint8_t b) {
 static void report_from(uint8_t row) {
     const uint8_t request[] = {0x40, 0x51, 0, 1, 0, 0, row, 2};
     uint8_t response[1020], set[16];
-    struct small_answered answer = small_smp(phys, sizeof phys, permissions, sizeof permissions, 0, 0, request,
+    struct small_answered answer = small_smp(phys, sizeof phys, permissions, sizeof permissions, 0, 0, 0, 0, request,
                                              sizeof request, response, sizeof response, set, sizeof set);
     printf("report from %u: refusal %u, result %02X, %u bytes\n", row, answer.refusal, answer.result, answer.length);
     if (answer.refusal == 0 && answer.result == 0) {

@@ -26,13 +26,13 @@ enum { ZONE_VIOLATION = SHELF_ZONE_VIOLATION, FORWARD = SHELF_FORWARD };
 
 /* A batch's and a report's rows have sixteen bytes each. A report has 63 of them at most, a batch no more than there are groups
  * from 2 on. */
-enum { PHYS = 128, ROUTES = 1024, RECORD = 12, REPORT = 63, BATCH = GROUPS - 2 < REPORT ? GROUPS - 2 : REPORT };
+enum { PHYS = 128, ROUTES = 1024, RECORD = 16, ROUTE = 12, REPORT = 63, BATCH = GROUPS - 2 < REPORT ? GROUPS - 2 : REPORT };
 enum { STACK = 1 << 16, RETURN_ADDRESS = 8 };
 
-static uint8_t phys[PHYS * RECORD], routes[ROUTES * RECORD], permissions[GROUPS * ROW];
+static uint8_t phys[PHYS * RECORD], routes[ROUTES * ROUTE], permissions[GROUPS * ROW];
 static uint8_t address[8], frame[28], out[28], set[16], request[12 + 16 * REPORT], response[1020];
 static size_t phys_len, permissions_len, frame_len, request_len;
-static uint32_t phy, number, carried;
+static uint32_t phy, number, carried, device_type, attached_phy, expander_changes, phy_changes;
 
 /* The answer's refusal, and the field that tells best what was done. */
 static uint32_t refusal, done;
@@ -54,7 +54,7 @@ static void leaving(void) {
 }
 
 static void identify(void) {
-    refusal = CALLEE(NAMED(identify))(phys, phys_len, phy, address, sizeof address);
+    refusal = CALLEE(NAMED(identify))(phys, phys_len, phy, address, sizeof address, device_type, attached_phy);
 }
 
 static void elect(void) {
@@ -85,8 +85,9 @@ static void broadcast_frame(void) {
 }
 
 static void smp(void) {
-    struct NAMED(answered) answer = CALLEE(NAMED(smp))(phys, phys_len, permissions, permissions_len, phy, carried, request,
-                                                     request_len, response, sizeof response, set, sizeof set);
+    struct NAMED(answered) answer = CALLEE(NAMED(smp))(phys, phys_len, permissions, permissions_len, phy, carried,
+                                                     expander_changes, phy_changes, request, request_len, response,
+                                                     sizeof response, set, sizeof set);
     refusal = answer.refusal;
     done = answer.result;
 }
@@ -106,10 +107,12 @@ static void largest_tables(void) {
         record[1] = 1;
         record[2] = 3;
         put_number(record + 10, 1 + i);
+        record[12] = 1;
+        record[13] = (uint8_t)i;
     }
     memset(routes, 0, sizeof routes);
     for (uint32_t i = 0; i < ROUTES; i++) {
-        uint8_t *record = routes + RECORD * i;
+        uint8_t *record = routes + ROUTE * i;
         put_number(record + 6, 0x8000 + i);
         record[8] = PHYS - 1;
         record[9] = 2;
@@ -121,6 +124,10 @@ static void largest_tables(void) {
     phy = 0;
     number = 7;
     carried = 1;
+    device_type = 2;
+    attached_phy = 255;
+    expander_changes = 65535;
+    phy_changes = 255;
 }
 
 /* Set-ups: what a trial has beside the largest tables. */
@@ -146,6 +153,11 @@ static void another_address(void) {
 static void no_address(void) {
     unready();
     memset(address, 0, sizeof address);
+}
+
+static void wide_type(void) {
+    another_address();
+    device_type = 256;
 }
 
 static void open_to(uint32_t destination) {
@@ -247,8 +259,38 @@ static void largest_report(void) {
     ask(0x51, 8, (const uint8_t[6]){0, REPORT});
 }
 
+static void last_discovered(void) {
+    ask(0x10, 12, (const uint8_t[6]){0, 0, 0, PHYS - 1, 0, 0});
+}
+
+static void hidden(void) {
+    last_discovered();
+    phys[RECORD * (PHYS - 1) + 1] = 3;
+    carried = 5;
+}
+
+static void hidden_shown(void) {
+    hidden();
+    request[8] = 1;
+}
+
+static void discover_beyond(void) {
+    last_discovered();
+    request[9] = PHYS;
+}
+
+static void discover_cut(void) {
+    last_discovered();
+    request_len = 8;
+}
+
+static void wide_count(void) {
+    last_discovered();
+    expander_changes = 65536;
+}
+
 static void other_function(void) {
-    ask(0x10, 8, (const uint8_t[6]){0});
+    ask(0x11, 8, (const uint8_t[6]){0});
 }
 
 static void without_right(void) {
@@ -277,6 +319,7 @@ static const struct trial trials[] = {
     TRIAL(leaving, phys_cut, 1, 0),
     TRIAL(identify, another_address, 0, 0),
     TRIAL(identify, no_address, 5, 0),
+    TRIAL(identify, wide_type, 5, 0),
     TRIAL(identify, as_it_is, 7, 0),
     TRIAL(elect, as_it_is, 0, 15),
     TRIAL(elect, phys_cut, 1, 0),
@@ -299,6 +342,12 @@ static const struct trial trials[] = {
     TRIAL(smp, largest_batch, 0, 0x00),
     TRIAL(smp, batch_beyond, 0, 0x11),
     TRIAL(smp, largest_report, 0, 0x00),
+    TRIAL(smp, last_discovered, 0, 0x00),
+    TRIAL(smp, hidden, 0, 0x16),
+    TRIAL(smp, hidden_shown, 0, 0x00),
+    TRIAL(smp, discover_beyond, 0, 0x10),
+    TRIAL(smp, discover_cut, 0, 0x03),
+    TRIAL(smp, wide_count, 5, 0),
     TRIAL(smp, other_function, 0, 0x01),
     TRIAL(smp, without_right, 0, 0x01),
     TRIAL(smp, request_cut, 4, 0),

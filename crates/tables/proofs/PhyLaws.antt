@@ -7,7 +7,8 @@ use Prim.Native.Nat.{ℕ, zero, suc, _+_, _*_, _/_, _%_, _≤_, _<_}
 use native.Mathlib.Nat.{add-zero}
 use native.Mathlib.Omega.{arith}
 use lib.Dec.{eqb}
-use lib.ListN.{length, getD, drop, replicate, List·getD-eq-default, length-set}
+use lib.ListN.{length, getD, take, drop, replicate, List·getD-eq-default, length-set}
+use lib.Seq.{getD-take, getD-drop}
 use Rattle.wire.specs.PhySet.{member}
 use Rattle.wire.proofs.Sets.{member-setOf}
 use Rattle.tables.specs.Phys.{phyRecord, phyCount, phyByte, ready, readySet, emptySet, zoned}
@@ -15,6 +16,14 @@ use Rattle.tables.specs.Phys.{phyRecord, phyCount, phyByte, ready, ready
 -- byte 0, as the code reads it
 pub byte0 : (phys : List ℕ) (i : ℕ) → getD phys (phyRecord * i) 0 ≡ phyByte phys i 0
 byte0 phys i = ap (λ (k : ℕ). getD phys k 0) (sym (add-zero (phyRecord * i)))
+
+-- one record, byte by byte
+pub record-bytes : (phys₁ phys₂ : List ℕ) (i : ℕ) → take phyRecord (drop (phyRecord * i) phys₁) ≡ take phyRecord (drop (phyRecord * i) phys₂)
+    → (k : ℕ) → k < phyRecord → phyByte phys₁ i k ≡ phyByte phys₂ i k
+record-bytes phys₁ phys₂ i e k h = sym (byte-of phys₁) ∙ ap (λ (l : List ℕ). getD l k 0) e ∙ byte-of phys₂
+  where
+    byte-of : (phys : List ℕ) → getD (take phyRecord (drop (phyRecord * i) phys)) k 0 ≡ phyByte phys i k
+    byte-of phys = getD-take phyRecord (drop (phyRecord * i) phys) k 0 h ∙ getD-drop (phyRecord * i) phys k 0
 
 -- past the last record no phy is ready
 pub ready-out : (phys : List ℕ) (i : ℕ) → length phys % phyRecord ≡ 0 → phyCount phys ≤ i → false ≡ ready phys i

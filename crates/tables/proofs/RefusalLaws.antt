@@ -109,6 +109,16 @@ all-clear (refuse (suc n) t ∷ cs) k e =
 pub clear : (cs : List Check) (r : ℕ) → r ≡ firstRefusal cs → r ≡ 0 → Numbered cs → Clear cs
 clear cs r e z k = all-clear cs k (sym e ∙ z)
 
+-- ---- two lists of rows that give one number, row by row: what is behind a row counts only where its test fails
+pub row-same : (n : ℕ) (t s : Test) (cs ds : List Check) → holds t ≡ holds s → (Fails t → firstRefusal cs ≡ firstRefusal ds)
+    → firstRefusal (refuse n t ∷ cs) ≡ firstRefusal (refuse n s ∷ ds)
+unfolding firstRefusal
+row-same n t s cs ds e h = rw (← e) (go (holds t) refl)
+  where
+    go : (b : Bool) → holds t ≡ b → cond b n (firstRefusal cs) ≡ cond b n (firstRefusal ds)
+    go true q = refl
+    go false q = h (failed t q)
+
 -- ---- rows that several calls check first, and then a call's own
 pub front : (xs ys : List Check) (r : ℕ) → r ≡ firstRefusal xs → (r ≡ 0 → ⊥) → r ≡ firstRefusal (xs ++ ys)
 unfolding firstRefusal

@@ -3,6 +3,8 @@
 fails where an edit has no log, or was refused only because a proof no longer fits the code's shape: that shows nothing of what the edit gets
 wrong, since a right change of the same shape would be refused as well. A kind that is not listed here fails too: somebody has to look at it.
 An edit may get several functions wrong, each by itself: then every function whose code it changes must be refused, and not only the first.
+An edit may change a definition and the code together, so that the one still meets the other: then no function may be refused, and the first error
+is in a law of the definition. It may change the proofs of the two as well, which no other edit may.
 
 edits.py LOGS    LOGS has CRATE/EDIT/.log for each crates/CRATE/must-fail/EDIT.edit
 edits.py LOGS --all    prints each edit with its first error too"""
@@ -50,6 +52,21 @@ def changed(edit, crate):
     return sorted(names - contracts)
 
 
+def parts(edit):
+    """The folders that an edit changes: src, specs, proofs."""
+    return {file.split('/')[0] for file in re.findall(r'^file: (.*)', edit, re.M)}
+
+
+def together(error, said):
+    """What is wrong with the log of an edit that changes a definition and the code together."""
+    refused = re.findall(r'^fn \w+::(\w+): (?!proved$)', said, re.M)
+    if refused:
+        return 'a definition and its code are changed together and do not agree', ', '.join(refused)
+    if not re.search(r'/proofs/[A-Z]\w*\.antt:', error[0]):
+        return 'a definition and its code are changed together and no law is refused', error[0]
+    return None
+
+
 def kind(message):
     words = re.sub(r'`[^`]*`', lambda quoted: quoted[0] if quoted[0] in WORDS else '`..`', message)
     return next((name for name, pattern in KINDS if re.search(pattern, words)), UNKNOWN)
@@ -62,8 +79,14 @@ def read(crates, logs):
         log = logs / name / '.log'
         said = log.read_text(errors='replace') if log.is_file() else ''
         error = first_error(said)
-        proved = [f for f in changed(edit.read_text(), edit.parent.parent) if re.search(rf'^fn \w+::{f}: proved$', said, re.M)]
-        if error and proved:
+        changes, folders = edit.read_text(), parts(edit.read_text())
+        both = {'src', 'specs'} <= folders
+        proved = [f for f in changed(changes, edit.parent.parent) if not both and re.search(rf'^fn \w+::{f}: proved$', said, re.M)]
+        if 'proofs' in folders and not both:
+            yield name, 'it changes a proof', ''
+        elif error and both and together(error, said):
+            yield name, *together(error, said)
+        elif error and proved:
             yield name, 'a function that it changes is proved', ', '.join(proved)
         elif error:
             place, message = error
@@ -92,6 +115,10 @@ def can_fail():
         'one_of_two': '/p: error: `x`: `omega`: it fails\nfn c::f: proved\nfn c::g: not proved\n',
         'both': '/p: error: `x`: `omega`: it fails\nfn c::f: not proved\nfn c::g: no proof\n',
         'with_contract': '/p: error: `x`: `omega`: it fails\nfn c::f: proved\nfn c::g: not proved\n',
+        'agree': '/x/proofs/Law.antt:1:1: error: `x`: `omega`: it fails\nfn c::f: proved\nfn c::g: proved\n',
+        'agree_not': '/x/proofs/Law.antt:1:1: error: `x`: `omega`: it fails\nfn c::f: proved\nfn c::g: not proved\n',
+        'agree_no_law': '/x/proofs/f/Proof.antt:1:1: error: `x`: `omega`: it fails\nfn c::f: proved\nfn c::g: proved\n',
+        'proof': '/p: error: `x`: `omega`: it fails\nfn c::f: not proved\n',
         'lost': None,
     }
     with tempfile.TemporaryDirectory() as work:
@@ -102,12 +129,14 @@ def can_fail():
         for name, log in samples.items():
             two = 'file: src/lib.rt\nold: return 1\nnew: return 3\nfile: src/lib.rt\nold: return 2\nnew: return 3\n'
             contract = 'file: src/lib.rt\nold: one\nnew: three\n' if name == 'with_contract' else ''
-            (crates / f'c/must-fail/{name}.edit').write_text(contract + two if name in ('one_of_two', 'both', 'with_contract') else '')
+            rule = 'file: specs/S.antt\nold: one\nnew: three\n' if name.startswith('agree') else ''
+            edited = contract + rule + two if name in ('one_of_two', 'both', 'with_contract') or rule else ''
+            (crates / f'c/must-fail/{name}.edit').write_text('file: proofs/P.antt\nold: one\nnew: three\n' if name == 'proof' else edited)
             if log is not None:
                 (logs / 'c' / name).mkdir(parents=True)
                 (logs / 'c' / name / '.log').write_text(log)
         named = [line.split(':')[0] for line in bad(read(crates, logs))]
-    if named != ['c/follows_shape', 'c/lost', 'c/no_field', 'c/no_need', 'c/one_of_two', 'c/only_follows', 'c/other', 'c/silent']:
+    if named != ['c/agree_no_law', 'c/agree_not', 'c/follows_shape', 'c/lost', 'c/no_field', 'c/no_need', 'c/one_of_two', 'c/only_follows', 'c/other', 'c/proof', 'c/silent']:
         sys.exit(f'edits.py: of the made-up logs these are refused: {named}')
 
 

@@ -1,1 +1,2 @@
 pub mod DiscoverLaws
+pub mod AlikeLaws

@@ -44,7 +44,8 @@ fn is_shown(
     if request[8] % 2 == 1 {
         return true;
     }
-    let group = tables::phy_group(phys, PhyNumber(request[9]));
+    let asked = PhyNumber(request[9]);
+    let group = tables::phy_group(phys, asked);
     requests::source_reaches(width, phys, permissions, phy, carried, group)
 }
 

@@ -11,8 +11,8 @@ shared-slice-read-if1 c = search needs
 returns : tie.Need-returns
 returns c = search shown-ignoring
 
-shared-slice-read-t9 : tie.Need-shared-slice-read-t9
-shared-slice-read-t9 c = search needs
+shared-slice-read-t10 : tie.Need-shared-slice-read-t10
+shared-slice-read-t10 c = search needs
 
 phy-group-requires : tie.Need-phy-group-requires
 phy-group-requires c κs = search needs
@@ -29,7 +29,7 @@ is-shown-spec =
     (tie.spec
     shared-slice-read-if1
     returns
-    shared-slice-read-t9
+    shared-slice-read-t10
     phy-group-requires
     source-reaches-requires
     returns-2)

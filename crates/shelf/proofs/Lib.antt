@@ -6,3 +6,4 @@ pub mod Shut
 pub mod WidePorts
 pub mod Apart
 pub mod Outside
+pub mod Learned

@@ -1,22 +1,24 @@
 -- What is promised, for every row width w: of document 01's shelf, w = 16, and of the small shelf, w = 1. The proofs are in proofs/: Answers.antt
 -- (Refusals, TurnedDown), Exactly.antt (ExactlyOne), Worked.antt (Cases, whose rows are in Cases.antt, and LaterToo), Histories.antt (History,
 -- BothWays, NoOpen, NoBroadcast, NoDiscover), WidePorts.antt (ToldPermitted, ToldOnce, EachPortTold, NoReturn, LeavesPort), Apart.antt (AllHeld,
--- NoOpenApart, NoBroadcastApart, NoDiscoverApart), Outside.antt (NoGroupNoAnswer, CarriedUnread, Skipped) and Shut.antt (Counted, Supervisor, ShutOut). Quotes are of the
--- three demands, docs/PROMISES.md, of document 01 and of document 02.
+-- NoOpenApart, NoBroadcastApart, NoDiscoverApart), Outside.antt (NoGroupNoAnswer, CarriedUnread, Skipped), Learned.antt (LearnsNothingElse) and Shut.antt
+-- (Counted, Supervisor, ShutOut). Quotes are of the three demands, docs/PROMISES.md, of document 01 and of document 02.
 use mathlib.Core.Path.{_≡_}
 use mathlib.Core.Bool.{Bool, true, false}
 use mathlib.Core.Logic.{_⊎_}
 use mathlib.Core.List.{List, [], _∷_, _++_}
-use Prim.Native.Nat.{ℕ, _%_, _≤_, _<_}
-use lib.ListN.{length, getD, drop}
+use Prim.Native.Nat.{ℕ, _*_, _%_, _≤_, _<_}
+use lib.Dec.{eqb}
+use lib.ListN.{length, getD, take, drop}
 use Rattle.wire.specs.declared.PhyNumber.{PhyNumber}
 use Rattle.wire.specs.declared.ZoneGroup.{ZoneGroup}
+use Rattle.wire.specs.declared.OutsideGroup.{OutsideGroup}
 use Rattle.wire.specs.declared.OutsideGroup.the-variants.{Group}
 use Rattle.wire.specs.PhySet.{member, physIn}
-use Rattle.permit.specs.Permission.{groups, tableSize, P, reaches}
+use Rattle.permit.specs.Permission.{groups, tableSize, permissionsSized, P, reaches}
 use Rattle.permit.specs.History.{Zone, latest, Says}
 use Rattle.tables.specs.Outcome.{Answer, refusal, answer, Out, out}
-use Rattle.tables.specs.Phys.{phyCount, phyGroup, participating, emptySet}
+use Rattle.tables.specs.Phys.{phyRecord, phyCount, physSized, phyGroup, participating, ready, emptySet}
 use Rattle.tables.specs.Ports.{samePort}
 use Rattle.tables.specs.Routes.{routeRecord}
 use Rattle.links.specs.Links.{linkedAs}
@@ -26,7 +28,7 @@ use Rattle.opens.specs.declared.Opened.the-variants.{Forward}
 use Rattle.searches.specs.Search.{search}
 use Rattle.opens.specs.Open.{openedAs, openSource, openOut}
 use Rattle.told_set.specs.ToldSet.{permitted}
-use Rattle.requests.specs.Requests.{smpSource}
+use Rattle.requests.specs.Requests.{smpSource, sourceReaches}
 use Rattle.broadcasts.specs.Broadcasts.{toldAs, frameSource, primitiveOut, broadcastOut}
 use Rattle.discover.specs.declared.Changes.{Changes}
 use Rattle.discover.specs.Discover.{lengthSaid, ignoresGroups, askedPhy}
@@ -216,6 +218,98 @@ Skipped =
     (phys frame before skipped behind : List ℕ) → length before % routeRecord ≡ 0 → length skipped ≡ routeRecord → 127 < getD skipped 9 0
     → (search phys (before ++ skipped ++ behind) frame ≡ search phys (before ++ behind) frame)
     × (elected phys (before ++ skipped ++ behind) ≡ elected phys (before ++ behind))
+
+-- ---- What a member can learn
+
+-- a shelf, and what an SMP call on it is handed beside the request
+pub record Shelf : Type 0 where
+  pub phys : List ℕ
+  pub permissions : List ℕ
+  pub changes : Changes
+  pub phy : ℕ
+  pub carried : ℕ
+  pub response : List ℕ
+  pub set : List ℕ
+
+-- the caller's source group
+abbrev pub sourceOf : Shelf → OutsideGroup
+sourceOf s = smpSource (s .phys) (s .phy) (s .carried)
+
+-- "permitted to that group": P(source group, phy i's group), whether phy i is ready or not
+abbrev pub permittedTo : ℕ → Shelf → ℕ → Bool
+permittedTo w s i = sourceReaches w (s .permissions) (sourceOf s) (phyGroup (s .phys) i)
+
+-- phy i's record, all its bytes
+abbrev pub recordOf : Shelf → ℕ → List ℕ
+recordOf s i = take phyRecord (drop (phyRecord * i) (s .phys))
+
+-- a premise below, by name: the worked pairs of Learn.antt break one at a time, the theorem none
+pub data Premise : Type 0 where
+  none : Premise
+  sizes : Premise
+  counts : Premise
+  buffers : Premise
+  readiness : Premise
+  permission : Premise
+  records : Premise
+
+abbrev pub placeOf : Premise → ℕ
+placeOf none = 0
+placeOf sizes = 1
+placeOf counts = 2
+placeOf buffers = 3
+placeOf readiness = 4
+placeOf permission = 5
+placeOf records = 6
+
+-- that A does not hold, where it is the broken premise; else that it does
+abbrev pub Broken : Bool → Type 0 → Type 0
+Broken true A = A → ⊥
+Broken false A = A
+
+abbrev pub Unless : Premise → Premise → Type 0 → Type 0
+Unless broken premise A = Broken (eqb (placeOf broken) (placeOf premise)) A
+
+-- request 04's premises on two shelves, a field for each of its words
+pub record Alike (broken : Premise) (w : ℕ) (a b : Shelf) : Type 0 where
+  -- "take two shelves with right .. lent sizes". The proof does not use it: a wrong size is refused on both.
+  pub rightSizes : ((physSized (a .phys) ≡ true) × (permissionsSized w (a .permissions) ≡ true))
+      × ((physSized (b .phys) ≡ true) × (permissionsSized w (b .permissions) ≡ true))
+  -- "and equal lent sizes"
+  pub equalSizes : Unless broken sizes ((length (a .phys) ≡ length (b .phys)) × (length (a .permissions) ≡ length (b .permissions)))
+  -- "the same change counts handed in"
+  pub sameCounts : Unless broken counts (a .changes ≡ b .changes)
+  -- the same buffers lent for response and set, in size and in bytes
+  pub equalBuffers : Unless broken buffers ((a .response ≡ b .response) × (a .set ≡ b .set))
+  -- "and one caller on the same phy"
+  pub samePhy : a .phy ≡ b .phy
+  -- "ready in both"
+  pub readyInBoth : Unless broken readiness ((ready (a .phys) (a .phy) ≡ true) × (ready (b .phys) (b .phy) ≡ true))
+  -- "participating in both or neither", "with the same carried byte". The proof uses neither: with the same source group they say no more that
+  -- counts.
+  pub participatingAlike : participating (a .phys) (a .phy) ≡ participating (b .phys) (b .phy)
+  pub sameCarried : a .carried ≡ b .carried
+  -- "and source group"
+  pub sameSource : sourceOf a ≡ sourceOf b
+  -- "If the same phys are permitted to that group in both": phy i in the one exactly if it is in the other
+  pub samePermitted : Unless broken permission ((i : ℕ) → i < phyCount (a .phys) → permittedTo w a i ≡ permittedTo w b i)
+  -- "and those phys' records are equal", byte for byte, also those of phys that are not ready
+  pub equalRecords : Unless broken records ((i : ℕ) → i < phyCount (a .phys) → permittedTo w a i ≡ true → recordOf a i ≡ recordOf b i)
+
+-- an outcome as the caller sees it: the answer, and the bytes of response and set (an SMP call's buffers 2 and 3)
+abbrev pub seenOf : Out → Out
+seenOf (out a bs) = out a (getD bs 2 [] ∷ getD bs 3 [] ∷ [])
+
+-- what a request gets the caller
+abbrev pub gets : ℕ → Shelf → List ℕ → Out
+gets w s request = seenOf (outcomeOf w (smp (s .phys) (s .phy) (s .carried) (s .changes) request (s .response) (s .set)) (s .permissions))
+
+-- "every DISCOVER with the ignore bit zero gets the same bytes. All else in them may differ.": every request with function 10h, of any length and
+-- content; one too short to have the ignore bit has it zero
+abbrev pub LearnsNothingElse : Type 0
+LearnsNothingElse =
+    (w : ℕ) (a b : Shelf) → Alike none w a b → (request : List ℕ) → functionOf request ≡ 0x10 → ignoresGroups request ≡ false
+    → gets w a request ≡ gets w b request
 
 -- ---- The count
 

@@ -1,5 +1,5 @@
 /* Cases 1 and 2 of the scope document on the bench rack with what a member's phy sees before and after, then a port of two phys, then the
- * group that is carried for SMP, through shelf.h. The output is in case.txt. */
+ * group that is carried for SMP, then what a member learns of a neighbour's disk, through shelf.h. The output is in case.txt. */
 #include <shelf.h>
 
 #include <stdio.h>
@@ -34,16 +34,21 @@ static const uint8_t *address_of(int phy) {
     return phys + RECORD * phy + 4;
 }
 
-static void open_to(unsigned from, int to) {
+static void open_address(unsigned from, const uint8_t *address) {
     uint8_t frame[28] = {0x01}, out[28];
-    memcpy(frame + 4, address_of(to), 8);
+    memcpy(frame + 4, address, 8);
     struct shelf_opened opened = shelf_open(phys, sizeof phys, no_routes, 0, permissions, sizeof permissions, from, frame,
                                             sizeof frame, out, sizeof out);
-    printf("OPEN from phy %u to phy %d: refusal %u, ", from, to, opened.refusal);
+    printf("refusal %u, ", opened.refusal);
     if (opened.outcome == SHELF_FORWARD)
         printf("forward on phy %u, byte 20 is %02X\n", opened.phy, out[20]);
     else
         printf("outcome %u\n", opened.outcome);
+}
+
+static void open_to(unsigned from, int to) {
+    printf("OPEN from phy %u to phy %d: ", from, to);
+    open_address(from, address_of(to));
 }
 
 static void switch_on_8_and_9(void) {
@@ -81,6 +86,40 @@ static void list_from(unsigned member) {
             printf("\n");
         }
     }
+}
+
+/* Every DISCOVER of a phy, there or not, with the ignore bit zero: the answers, and all bytes of response and set. */
+struct listing {
+    struct shelf_answered answers[256];
+    uint8_t responses[256][1020], sets[256][16];
+};
+
+static void learn(unsigned member, struct listing *all) {
+    memset(all, 0, sizeof *all);
+    for (int phy = 0; phy < 256; phy++) {
+        const uint8_t request[] = {0x40, 0x10, 0, 2, 0, 0, 0, 0, 0, (uint8_t)phy, 0, 0};
+        all->answers[phy] = shelf_smp(phys, sizeof phys, permissions, sizeof permissions, member, 0, EXPANDER_CHANGES,
+                                      PHY_CHANGES, request, sizeof request, all->responses[phy], sizeof all->responses[phy],
+                                      all->sets[phy], sizeof all->sets[phy]);
+    }
+}
+
+/* Group 9's disk on phy 4 is swapped for another, which a member on phy 2 may not reach either. An OPEN to the old one tells. */
+static void swap_a_hidden_disk(void) {
+    static const uint8_t another[8] = {0x50, 0, 0, 0, 0, 0, 0, 0x99};
+    static struct listing before, after;
+    uint8_t old[8];
+    memcpy(old, address_of(4), 8);
+    learn(2, &before);
+    printf("OPEN from phy 2 to phy 4's disk: ");
+    open_address(2, old);
+    printf("phy 4 leaves: refusal %u\n", shelf_leaving(phys, sizeof phys, 4));
+    printf("IDENTIFY on phy 4 with another address: refusal %u\n",
+           shelf_identify(phys, sizeof phys, 4, another, 8, END_DEVICE, ATTACHED_PHY));
+    learn(2, &after);
+    printf("all DISCOVERs from phy 2: %s\n", memcmp(&before, &after, sizeof before) == 0 ? "the same bytes" : "other bytes");
+    printf("OPEN from phy 2 to the disk that left: ");
+    open_address(2, old);
 }
 
 static void permissions_of_8_and_9(void) {
@@ -137,5 +176,9 @@ int main(void) {
     list_from(0);
     ask_on_7(byte_20);
     ask_on_7(byte_20 & 0x7F);
+    memset(phys, 0, sizeof phys);
+    bench_rack();
+    printf("start-up: refusal %u\n", shelf_start_up(permissions, sizeof permissions));
+    swap_a_hidden_disk();
     return 0;
 }

@@ -111,7 +111,12 @@ struct small_told small_broadcast_frame(const uint8_t *phys, size_t phys_len, co
  * the caller keeps, of the expander and of the phy that a DISCOVER (10h) asks for; no other function reads them. Refusals: 1, 2, 3
  * (response_len under 1,020 or set_len under 16), 7, 4, 5, 8. Writes the first length bytes of response and the first 16 of set; where result is 0 and the function is 93h
  * also bytes 0 and 1 of the records named, and where it is C1h also permissions. Where result is not 0 length is 4 and the 16 bytes of
- * set are zero. A change notice (93h, C1h) goes to all ready phys, whatever their ports. */
+ * set are zero. A change notice (93h, C1h) goes to all ready phys, whatever their ports.
+ *
+ * What a DISCOVER with the ignore bit zero (byte 8, bit 0) gets depends on the change counts, on how many phys there are, and on the
+ * records of those phys alone that the source group may reach; of any other phy it gets the same four bytes, result 16h. With the bit one it
+ * shows any phy to any caller, and small_open tells an address that is on the shelf (ZONE VIOLATION) from one that is not (NO DESTINATION):
+ * docs/PROMISES.md, "What a member can learn". */
 struct small_answered small_smp(uint8_t *phys, size_t phys_len, uint8_t *permissions, size_t permissions_len, uint32_t phy,
                                 uint32_t carried, uint32_t expander_changes, uint32_t phy_changes, const uint8_t *request,
                                 size_t request_len, uint8_t *response, size_t response_len, uint8_t *set, size_t set_len);

@@ -398,6 +398,22 @@ STREAMS = {
         (smp(2, discover(4), carried=1), 'S 16 4 0'),  # what is carried on a phy that is not participating counts for nothing
         (smp(0, discover(4), carried=128), 'S 00 108 0'),
     ],
+    # what a member on phy 2 learns of group 9's disk on phy 4, which it may not reach
+    'learned': [
+        (smp(2, discover(4)), 'S 16 4 0'),
+        (leaving(4), 'L'),
+        (smp(2, discover(4)), 'S 16 4 0'),
+        (identify(4, UNZONED), 'L'),
+        (smp(2, discover(4)), 'S 16 4 0'),
+        (smp(0, phy_zone(4, (0, 10))), 'S 00 4 8'),
+        (smp(2, discover(4)), 'S 16 4 0'),
+        (smp(0, single(9, ON + 10)), 'S 00 4 8'),
+        (smp(2, discover(4)), 'S 16 4 0'),  # no DISCOVER that heeds groups told any of it
+        (smp(2, discover(4, byte8=1)), 'S 00 108 0'),  # but with the ignore bit one any phy is shown,
+        (smp(2, discover(8)), 'S 10 4 0'),  # phy 8 is not there, so there are eight,
+        (open_to(2, UNZONED), 'O ZV'),  # an address that is on the shelf is told
+        (open_to(2, address(4)), 'O ND'),  # from one that is not
+    ],
     'cut_header_1': [(bytes([LEAVING]), 'T')],
     'cut_header_4': [(leaving(2), 'L'), (bytes([9, 0, 0, 0]), 'T')],
     'cut_payload': [(primitive(0, 0), 'B 7'), (primitive(0, 0)[:-1], 'T')],

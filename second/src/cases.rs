@@ -5,6 +5,7 @@ use crate::large::{broadcast_frame, elect, identify, leaving, open, primitive, s
 use crate::tables::RECORD;
 use crate::{Answered, Elected, Opened, Told};
 
+mod alike;
 mod discover;
 mod outside;
 mod ports;

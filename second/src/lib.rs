@@ -1,10 +1,11 @@
 //! The second program: document 01's rules once more, with document 02's requests 01 (wide ports), 02 (groups from newer
-//! shelves), 03 (DISCOVER) and 09 (the small shelf), written from their texts alone.
+//! shelves), 03 (DISCOVER), 04 (what a member can learn) and 09 (the small shelf), written from their texts alone.
 //!
 //! `large` has one function for each call of `include/shelf.h` and `small` one for each of `include/small.h`, with the
 //! same meaning for every input: tables and buffers come as slices, numbers as `u32`, and the answer is a plain struct
 //! with the header's fields.
 
+pub mod alike;
 pub mod bench;
 pub mod broadcast;
 pub mod chains;

@@ -4,8 +4,11 @@
 //!
 //! PROFILE is large, for include/shelf.h, or small, for include/small.h.
 //!
+//! Some calls come in pairs, on two shelves: where request 04 says so, the library must give both the same bytes.
+//!
 //! Exits with 0 where the two agreed on every field and every byte, and every class of answers was reached.
 
+use second::trial::alike::Pair;
 use second::trial::call::{Answer, Call, FIELDS, SEND_ON};
 use second::trial::coverage::Coverage;
 use second::trial::generate::Generator;
@@ -102,8 +105,14 @@ fn start(command: &str) -> Result<Child, String> {
         .map_err(|error| format!("{command}: {error}"))
 }
 
-/// A batch of calls, each with the model's answer.
-type Batch = Vec<(Call, Answer)>;
+/// A call with the model's answer. Where it is the second of a pair, the first is the one before it in its batch.
+struct Tried {
+    call: Call,
+    model: Answer,
+    is_second: bool,
+}
+
+type Batch = Vec<Tried>;
 
 /// Makes up calls, asks the model, and passes the calls on to the driver.
 fn feed(mut driver: ChildStdin, sender: &SyncSender<Batch>, calls: u64, mut generator: Generator) {
@@ -113,7 +122,7 @@ fn feed(mut driver: ChildStdin, sender: &SyncSender<Batch>, calls: u64, mut gene
         let batch = batch(&mut generator, left.min(BATCH));
         left -= batch.len() as u64;
         bytes.clear();
-        batch.iter().for_each(|(call, _)| call.send(&mut bytes));
+        batch.iter().for_each(|tried| tried.call.send(&mut bytes));
         bytes.push(SEND_ON);
         // The answers must be awaited before the calls go out, or both pipes may fill up. Where the other side is gone,
         // compare_all says why.
@@ -123,29 +132,37 @@ fn feed(mut driver: ChildStdin, sender: &SyncSender<Batch>, calls: u64, mut gene
     }
 }
 
+/// So many calls. A pair that does not fit in loses its second call.
 fn batch(generator: &mut Generator, size: u64) -> Batch {
-    let one = |_| {
-        let call = generator.call();
-        let answer = call.model(generator.profile());
-        generator.keep(&call, &answer);
-        (call, answer)
-    };
-    (0..size).map(one).collect()
+    let mut batch = Vec::new();
+    while (batch.len() as u64) < size {
+        let tried = generator.tried().into_iter().enumerate();
+        batch.extend(tried.map(|(place, (call, model))| Tried { call, model, is_second: place == 1 }));
+    }
+    batch.truncate(size as usize);
+    batch
 }
 
 fn compare_all(arguments: &Arguments, mut answers: impl Read, receiver: &Receiver<Batch>) -> Result<Coverage, String> {
     let mut coverage = Coverage::new(arguments.profile);
     let mut number = 0u64;
     for batch in receiver {
-        for (place, (call, model)) in batch.iter().enumerate() {
+        let mut before: Option<Answer> = None;
+        for (place, tried) in batch.iter().enumerate() {
             number += 1;
-            compare(&mut answers, call, model).map_err(|disagreement| match disagreement {
+            let library = compare(&mut answers, tried).map_err(|disagreement| match disagreement {
                 Disagreement::NoAnswer => {
                     format!("call {number}: {}", who_ends_the_driver(&arguments.command, &batch[place..]))
                 }
                 Disagreement::Told(why) => format!("call {number}: {why}"),
             })?;
-            coverage.count(call, model);
+            coverage.count(&tried.call, &library);
+            if let Some(first) = before.filter(|_| tried.is_second) {
+                let pair = Pair { calls: [&batch[place - 1].call, &tried.call], answers: [&first, &library] };
+                compare_pair(arguments.profile, &pair).map_err(|why| format!("call {number}: {why}"))?;
+                coverage.count_pair(&pair);
+            }
+            before = Some(library);
         }
     }
     let mut rest = Vec::new();
@@ -163,24 +180,25 @@ enum Disagreement {
 }
 
 /// The driver ended before it sent on its answers: each call that is left is made again in a driver of its own.
-fn who_ends_the_driver(command: &str, batch: &[(Call, Answer)]) -> String {
-    let alone = |call: &Call, model: &Answer| {
+fn who_ends_the_driver(command: &str, batch: &[Tried]) -> String {
+    let alone = |tried: &Tried| {
         let mut driver = start(command).ok()?;
         let mut bytes = Vec::new();
-        call.send(&mut bytes);
+        tried.call.send(&mut bytes);
         // The pipe is closed at the end of this line. What is not written is not answered either.
         driver.stdin.take()?.write_all(&bytes).ok()?;
-        let said = compare(&mut driver.stdout.take()?, call, model);
+        let said = compare(&mut driver.stdout.take()?, tried);
         driver.wait().ok()?;
         Some(matches!(said, Err(Disagreement::NoAnswer)))
     };
-    match batch.iter().position(|(call, model)| alone(call, model).unwrap_or(true)) {
-        Some(after) => format!("the driver ends at the call {after} after this one\n{}", told(&batch[after].0)),
+    match batch.iter().position(|tried| alone(tried).unwrap_or(true)) {
+        Some(after) => format!("the driver ends at the call {after} after this one\n{}", told(&batch[after].call)),
         None => "the driver ended here or soon after, but not where each call is made alone".to_string(),
     }
 }
 
-fn compare(answers: &mut impl Read, call: &Call, model: &Answer) -> Result<(), Disagreement> {
+/// The library's answer, where it is the model's.
+fn compare(answers: &mut impl Read, Tried { call, model, .. }: &Tried) -> Result<Answer, Disagreement> {
     let mut head = [0; 2 + 8 * FIELDS];
     answers.read_exact(&mut head).map_err(|_| Disagreement::NoAnswer)?;
     let mut library = Answer { fields: fields(&head), buffers: model.buffers.clone() };
@@ -194,9 +212,27 @@ fn compare(answers: &mut impl Read, call: &Call, model: &Answer) -> Result<(), D
     } else if library != *model {
         format!("the two disagree\n{}{}", told(call), difference(model, &library))
     } else {
-        return Ok(());
+        return Ok(library);
     };
     Err(Disagreement::Told(why))
+}
+
+/// The library's answers to two calls, where request 04 says that they are the same.
+fn compare_pair(profile: Profile, pair: &Pair) -> Result<(), String> {
+    if pair.agrees() || !pair.must_agree(profile) {
+        return Ok(());
+    }
+    let [one, other] = pair.calls.map(told);
+    let [of_one, of_other] = pair.answers.map(|answer| answer.fields);
+    let mut text = format!("the two disagree: two shelves that are alike get different bytes\n{one}beside {other}");
+    text += &format!("  fields: {of_one:x?} and {of_other:x?}\n");
+    for (name, which) in [("response", 2), ("set", 3)] {
+        let [one, other] = pair.answers.map(|answer| &answer.buffers[which]);
+        if let Some(place) = one.iter().zip(other).position(|(one, other)| one != other) {
+            text += &format!("  {name}, byte {place}: {:02x} and {:02x}\n", one[place], other[place]);
+        }
+    }
+    Err(text)
 }
 
 fn fields(head: &[u8]) -> [u64; FIELDS] {

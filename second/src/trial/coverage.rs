@@ -3,7 +3,7 @@
 use super::arrival::{that_apply, Arrival, Classes};
 use super::call::{Answer, Call, NAMES};
 use super::profile::Profile;
-use super::{discover, outside, ports, small};
+use super::{alike, apart, discover, outside, ports, small};
 use crate::smp::{CONFIGURE_PHY_ZONE, CONFIGURE_ZONE_PERMISSION, DISCOVER, REPORT_ZONE_PERMISSION};
 use crate::speaking::source_from_outside;
 use crate::tables::{phy_table, route_table, PhyRecord};
@@ -140,7 +140,17 @@ impl Coverage {
 
     pub fn count(&mut self, call: &Call, answer: &Answer) {
         let place = usize::from(call.parts().place);
-        for class in classes(self.profile, call, answer) {
+        self.count_all(place, classes(self.profile, call, answer));
+    }
+
+    /// Two calls that are judged together count in further classes.
+    pub fn count_pair(&mut self, pair: &alike::Pair) {
+        let place = usize::from(pair.calls[0].parts().place);
+        self.count_all(place, alike::classes(self.profile, pair));
+    }
+
+    fn count_all(&mut self, place: usize, classes: Classes) {
+        for class in classes {
             *self.answers.entry((place, class)).or_default() += 1;
         }
     }
@@ -149,7 +159,9 @@ impl Coverage {
     pub fn missing(&self) -> Vec<String> {
         let place = |name| NAMES.iter().position(|known| *known == name).expect("a call's name");
         let of_small = if self.profile == Profile::Small { &small::REQUIRED[..] } else { &[] };
-        let required = REQUIRED.iter().chain(&outside::REQUIRED).chain(&discover::REQUIRED).chain(of_small);
+        let pairs_of_small = if self.profile == Profile::Small { &alike::REQUIRED_OF_SMALL[..] } else { &[] };
+        let of_calls = REQUIRED.iter().chain(&outside::REQUIRED).chain(&discover::REQUIRED).chain(of_small);
+        let required = of_calls.chain(&alike::REQUIRED).chain(&apart::REQUIRED).chain(pairs_of_small);
         let all = required.flat_map(|(name, classes)| classes.iter().map(move |class| (*name, *class)));
         let missing = all.filter(|&(name, class)| !self.answers.contains_key(&(place(name), class)));
         missing.map(|(name, class)| format!("{name}: {class}")).collect()
@@ -404,10 +416,11 @@ mod tests {
             let mut generator = Generator::new(profile, 1);
             let mut coverage = Coverage::new(profile);
             for _ in 0..60_000 {
-                let call = generator.call();
-                let answer = call.model(profile);
-                generator.keep(&call, &answer);
-                coverage.count(&call, &answer);
+                let tried = generator.tried();
+                tried.iter().for_each(|(call, answer)| coverage.count(call, answer));
+                if let [(one, of_one), (other, of_other)] = tried.as_slice() {
+                    coverage.count_pair(&alike::Pair { calls: [one, other], answers: [of_one, of_other] });
+                }
             }
             assert_eq!(coverage.missing(), Vec::<String>::new(), "{profile}");
         }

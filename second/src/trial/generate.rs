@@ -1,11 +1,15 @@
 //! Calls without end: each on a shelf that earlier calls have changed, most of them good, some damaged.
 
 use super::call::{Answer, Call};
+use super::pairs::pair;
 use super::profile::Profile;
 use super::random::Random;
 use super::requests::{broadcast_frame, damage_frame, open_frame};
 use super::shelf::Shelf;
 use crate::tables::RECORD;
+
+/// So many in a hundred calls have a second one beside them.
+const PAIRS: usize = 3;
 
 pub struct Generator {
     random: Random,
@@ -54,6 +58,18 @@ impl Generator {
         };
         self.damage(&mut call);
         call
+    }
+
+    /// The next call with the model's answer, or now and then two calls that are judged together as well.
+    pub fn tried(&mut self) -> Vec<(Call, Answer)> {
+        let profile = self.shelf.profile;
+        if self.random.percent(PAIRS) {
+            return self.pair().map(|call| (call.clone(), call.model(profile))).into();
+        }
+        let call = self.call();
+        let answer = call.model(profile);
+        self.keep(&call, &answer);
+        vec![(call, answer)]
     }
 
     /// The shelf goes on with the tables that an answered call left behind.
@@ -153,7 +169,24 @@ impl Generator {
     }
 
     fn smp(&mut self) -> Call {
-        let (phy, carried, request) = self.shelf.asks(&mut self.random);
+        let asks = self.shelf.asks(&mut self.random);
+        self.asking(asks)
+    }
+
+    /// One DISCOVER on two shelves: on this one, which stays as it is, and on another. A few have no room or a number
+    /// that does not fit.
+    pub fn pair(&mut self) -> [Call; 2] {
+        let asks = self.shelf.discovers(&mut self.random);
+        let mut first = self.asking(asks);
+        let profile = self.shelf.profile;
+        if self.random.percent(8) {
+            let damage = self.random.pick(&[Damage::Room, Damage::Number]);
+            damage_once(&mut self.random, profile, &mut first, damage);
+        }
+        pair(&mut self.random, profile, first)
+    }
+
+    fn asking(&mut self, (phy, carried, request): (usize, u8, Vec<u8>)) -> Call {
         Call::Smp {
             phys: self.shelf.phys.clone(),
             permissions: self.shelf.permissions.clone(),

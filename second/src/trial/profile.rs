@@ -67,6 +67,16 @@ impl Profile {
         }
     }
 
+    /// Writes P(a, b) where the table has both groups. P of others is no matter of the table.
+    pub fn write(self, permissions: &mut [u8], a: Group, b: Group, on: bool) {
+        let width = self.width();
+        if a.is_in_table(width) && b.is_in_table(width) {
+            let byte = &mut permissions[width * a.index() + width - 1 - b.index() / 8];
+            let bit = b.index() % 8;
+            *byte = *byte & !(1 << bit) | u8::from(on) << bit;
+        }
+    }
+
     /// Whether a caller of this group may change zoning.
     pub fn may_change_zoning(self, permissions: &[u8], source: Group) -> bool {
         self.permitted(permissions, source, Group::low_7_bits(2))

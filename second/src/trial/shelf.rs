@@ -5,7 +5,7 @@ use super::random::Random;
 use super::requests::{byte_from_outside, discover, group, group_byte, request, reserved};
 use crate::bench::Rack;
 use crate::speaking::source_from_outside;
-use crate::tables::{PhyRecord, Route, DEVICE_TYPE, RECORD, ROUTE};
+use crate::tables::{Group, PhyRecord, Route, DEVICE_TYPE, RECORD, ROUTE};
 use std::iter::repeat_n;
 
 pub struct Shelf {
@@ -68,12 +68,18 @@ impl Shelf {
     /// An SMP request, the phy on which it arrives and the byte that is carried with it. DISCOVER asks for no right, and
     /// those who have it mostly reach all groups: so it mostly comes from others.
     pub fn asks(&self, random: &mut Random) -> (usize, u8, Vec<u8>) {
-        let (right, request) = if random.percent(25) {
-            (25, discover(random, self.count()))
-        } else {
-            (85, request(random, self.profile, self.count()))
-        };
-        let (phy, carried) = self.speaker(random, right);
+        if random.percent(25) {
+            return self.discovers(random);
+        }
+        let request = request(random, self.profile, self.count());
+        let (phy, carried) = self.speaker(random, 85);
+        (phy, carried, request)
+    }
+
+    /// The same for DISCOVER alone.
+    pub fn discovers(&self, random: &mut Random) -> (usize, u8, Vec<u8>) {
+        let request = discover(random, self.count());
+        let (phy, carried) = self.speaker(random, 25);
         (phy, carried, request)
     }
 
@@ -221,10 +227,10 @@ fn permissions(random: &mut Random, profile: Profile) -> Vec<u8> {
     match random.below(10) {
         0..=3 => {}
         4..=6 => {
-            let (width, groups) = (profile.width(), profile.groups_of_table());
+            let groups = profile.groups_of_table() as u8;
             for _ in 0..random.between(1, 200) {
-                let [a, b] = [0, 1].map(|_| usize::from(group(random, profile)) % groups);
-                table[width * a + width - 1 - b / 8] |= 1 << (b % 8);
+                let [a, b] = [0, 1].map(|_| Group::low_7_bits(group(random, profile) % groups));
+                profile.write(&mut table, a, b, true);
             }
         }
         7 => table.fill(random.pick(&[0x00, 0xff])),

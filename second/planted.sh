@@ -138,6 +138,24 @@ large 'IDENTIFY: a wide number refused before the length' links.rs 'let address:
     'refuse_if(device_type > 255, Refusal::Kind)?; let address: [u8; 8]'
 large 'a wide phy count refused for DISCOVER alone' smp.rs 'u8::try_from(phy_changes)\.map_err(|_| Refusal::Kind)?' \
     'if request[1] == DISCOVER { u8::try_from(phy_changes).map_err(|_| Refusal::Kind)? } else { 0 }'
+# What a member can learn: an answer that hangs on a hidden phy's record, and premises of request 04 that are not asked
+# for, so that pairs are taken for alike though they are not.
+for shelf in large small; do
+    $shelf 'DISCOVER: a hidden phy that is not ready does not exist' discover.rs 'TurnedDown::PhyVacant)' \
+        'if phy.ready { TurnedDown::PhyVacant } else { TurnedDown::PhyDoesNotExist })'
+    $shelf 'alike: phys that are ready in neither need not have equal records' alike.rs 'of_one\[phy\] == of_other\[phy\]' \
+        '(of_one[phy][2] | of_other[phy][2]) \& 1 == 0 || of_one[phy] == of_other[phy]'
+    $shelf 'alike: the phys permitted need not be the same' alike.rs \
+        'permitted_phys::<WIDTH>(one) == permitted_phys::<WIDTH>(other)' 'true'
+done
+large 'alike: the counts need not be the same' alike.rs 'same_counts(one, other)' 'true'
+large 'alike: the sizes need not be equal' alike.rs 'equal_sizes(one, other)' 'true'
+large 'alike: the buffers need not be equal' alike.rs 'equal_buffers(one, other)' 'true'
+large 'alike: ready in one is enough' alike.rs 'is_ready(one) && is_ready(other)' 'is_ready(one) || is_ready(other)'
+large 'alike: P asked the other way round' alike.rs 'permitted(rows, source, group)' 'permitted(rows, group, source)'
+large 'alike: the ignore bit may be one' alike.rs ' && !ignore_bit' ''
+small 'alike: no group above 7 is permitted' alike.rs 'permitted(rows, source, group)' \
+    'group.is_in_table(WIDTH) \&\& permitted(rows, source, group)'
 small 'DISCOVER: groups above 7 shown to all' discover.rs '!permitted(rows, source, phy\.group)' \
     'phy.group.is_in_table(WIDTH) \&\& !permitted(rows, source, phy.group)'
 small 'groups modulo 8' permission.rs 'match rows.get(a.index()) {' \

@@ -6,7 +6,7 @@ use mathlib.Core.List.{List, [], _∷_, _++_}
 use Prim.Native.Nat.{ℕ, _+_, _*_}
 use lib.ListN.{getD, set, replicate}
 use Rattle.permit.specs.Permission.{setP, setBoth, startTable}
-use Rattle.tables.specs.Outcome.{Answer, answer, refusal}
+use Rattle.tables.specs.Outcome.{Answer, answer}
 use Rattle.tables.specs.Phys.{phyRecord}
 use Rattle.discover.specs.declared.Changes.{Changes}
 use Rattle.discover.specs.Discover.{ignoresGroups}
@@ -34,20 +34,25 @@ ordered w = setBoth w (startTable w) 4 5 true
 abbrev pub noChanges : Changes
 noChanges = record { expander = 0; phy = 0 }
 
--- a shelf with these tables, its caller on `phy` with the group `carried`, and empty buffers
-abbrev pub shelfOf : List ℕ → List ℕ → ℕ → ℕ → Shelf
-shelfOf phys permissions phy carried = record {
+-- a response buffer as it was lent, all bytes x
+abbrev pub filled : ℕ → List ℕ
+filled x = replicate 1020 x
+
+-- a shelf with these tables and counts, its caller on `phy` with the group `carried`, and the buffers that are lent
+abbrev pub shelfOf : List ℕ → List ℕ → Changes → ℕ → ℕ → List ℕ → Shelf
+shelfOf phys permissions changes phy carried response = record {
   phys = phys;
   permissions = permissions;
-  changes = noChanges;
+  changes = changes;
   phy = phy;
   carried = carried;
-  response = replicate 1020 0;
+  response = response;
   set = replicate 16 0;
 }
 
+-- these, and a caller
 unfoldable pub here : ℕ → ℕ → ℕ → Shelf
-here w phy carried = shelfOf members (ordered w) phy carried
+here w phy carried = shelfOf members (ordered w) noChanges phy carried (filled 0)
 
 -- ---- "one worked pair of different shelves": all that a host of group 4 may not know of is another
 
@@ -60,8 +65,9 @@ neighbours = put 2 1 9 (put 2 11 0x99 (put 2 12 2 (put 2 13 5 (put 3 2 2 (put 1 
 unfoldable pub reordered : ℕ → List ℕ
 reordered w = setP w (setBoth w (ordered w) 6 7 true) 5 4 false
 
+-- these, and the same caller
 unfoldable pub elsewhere : ℕ → ℕ → ℕ → Shelf
-elsewhere w phy carried = shelfOf neighbours (reordered w) phy carried
+elsewhere w phy carried = shelfOf neighbours (reordered w) noChanges phy carried (filled 0)
 
 -- the theorem applies to them, and so no DISCOVER with the ignore bit zero tells them apart
 abbrev pub Pair : ℕ → ℕ → ℕ → Type 0
@@ -78,47 +84,31 @@ Pairs w = Pair w 1 0 × Pair w 7 4
 
 -- phy 4, which is permitted, has another address
 unfoldable pub otherAddress : ℕ → Shelf
-otherAddress w = shelfOf (put 4 11 0x99 members) (ordered w) 1 0
+otherAddress w = shelfOf (put 4 11 0x99 members) (ordered w) noChanges 1 0 (filled 0)
 
 -- phy 5, which is permitted and not ready, is in group 1
 unfoldable pub otherGroup : ℕ → Shelf
-otherGroup w = shelfOf (put 5 1 1 members) (ordered w) 1 0
+otherGroup w = shelfOf (put 5 1 1 members) (ordered w) noChanges 1 0 (filled 0)
 
 -- the order was not given
 unfoldable pub noOrder : ℕ → Shelf
-noOrder w = shelfOf members (startTable w) 1 0
+noOrder w = shelfOf members (startTable w) noChanges 1 0 (filled 0)
 
 -- the caller's phy is not ready
 unfoldable pub notReady : ℕ → Shelf
-notReady w = shelfOf (put 1 2 2 members) (ordered w) 1 0
+notReady w = shelfOf (put 1 2 2 members) (ordered w) noChanges 1 0 (filled 0)
 
 -- both counts are others
 unfoldable pub otherCounts : ℕ → Shelf
-otherCounts w = record {
-  phys = members;
-  permissions = ordered w;
-  changes = record { expander = 0x0102; phy = 3 };
-  phy = 1;
-  carried = 0;
-  response = replicate 1020 0;
-  set = replicate 16 0;
-}
+otherCounts w = shelfOf members (ordered w) (record { expander = 0x0102; phy = 3 }) 1 0 (filled 0)
 
 -- there is one phy more, in group 0, which the caller does not reach
 unfoldable pub oneMore : ℕ → Shelf
-oneMore w = shelfOf (members ++ replicate 16 0) (ordered w) 1 0
+oneMore w = shelfOf (members ++ replicate 16 0) (ordered w) noChanges 1 0 (filled 0)
 
 -- the response buffer held other bytes
 unfoldable pub otherBuffer : ℕ → Shelf
-otherBuffer w = record {
-  phys = members;
-  permissions = ordered w;
-  changes = noChanges;
-  phy = 1;
-  carried = 0;
-  response = replicate 1020 1;
-  set = replicate 16 0;
-}
+otherBuffer w = shelfOf members (ordered w) noChanges 1 0 (filled 1)
 
 -- byte k of the response to a DISCOVER of phy i with this byte 8
 unfoldable pub byteOf : ℕ → Shelf → ℕ → ℕ → ℕ → ℕ

@@ -1,23 +1,23 @@
 -- What a member can learn: on two shelves that are alike to their caller every DISCOVER with the ignore bit zero gets the same answer and bytes.
 -- Assumes nothing.
-use mathlib.Core.Path.{_≡_}
+use mathlib.Core.Path.{_≡_, refl, ap, _∙_}
 use mathlib.Core.Bool.{true, false}
 use mathlib.Core.List.{List, [], _∷_}
 use Prim.Native.Nat.{ℕ, zero, suc, _<_}
-use lib.ListN.{length}
+use lib.ListN.{length, getD}
 use Rattle.tables.specs.Arrival.{arrivalChecks}
-use Rattle.tables.specs.Outcome.{outcome}
+use Rattle.tables.specs.Outcome.{Answer, out, outcome}
 use Rattle.tables.specs.Phys.{phyCount, physSized, ready}
 use Rattle.tables.specs.Refusals.{firstRefusal}
 use Rattle.tables.proofs.PhyLaws.{record-bytes}
-use Rattle.requests.specs.Requests.{Reply}
-use Rattle.discover.specs.Discover.{ignoresGroups}
+use Rattle.requests.specs.Requests.{Reply, replied}
+use Rattle.discover.specs.Discover.{ignoresGroups, discoverChecks, discoverReply}
 use Rattle.discover.proofs.AlikeLaws.{Same, reply-same}
 use Rattle.rules.specs.Rules.{functionOf, smpReply, lengthField}
 use Rattle.rules.proofs.RuleLaws.{is-10}
 use Rattle.smp.specs.Smp.{roomFor, smpChecks, valuesOf, buffersOf}
 use Rattle.shelf.specs.Calls.{outcomeOf}
-use Rattle.shelf.specs.Promises.{Shelf, sourceOf, permittedTo, recordOf, seenOf, gets, LearnsNothingElse}
+use Rattle.shelf.specs.Promises.{Shelf, sourceOf, permittedTo, recordOf, seenOf, gets, LearnsNothingElse, DiscoverKeeps}
 
 -- what the rule that the function byte picks replies, of a shelf
 abbrev pub replyOf : ℕ → List ℕ → Shelf → Reply
@@ -70,3 +70,23 @@ module _ (w : ℕ) (a b : Shelf) (request : List ℕ) (f : functionOf request �
 pub learns-nothing-else : LearnsNothingElse
 learns-nothing-else w a b k request f z =
     learned w a b request f z (k .equalSizes) (k .sameCounts) (k .samePermitted) (k .equalRecords) (k .equalBuffers) (k .samePhy) (k .readyInBoth) (k .sameSource)
+
+-- ---- both tables after a DISCOVER
+tables-kept : (n : ℕ) (values a b c d : List ℕ) (os ns : List (List ℕ)) (r : Answer) (bs : List (List ℕ)) → c ≡ a → d ≡ b
+    → outcome n values (a ∷ b ∷ os) (c ∷ d ∷ ns) ≡ out r bs → (getD bs 0 [] ≡ a) × (getD bs 1 [] ≡ b)
+unfolding outcome
+tables-kept zero values a b c d os ns r bs ec ed e = (cc, cc)
+tables-kept (suc n) values a b c d os ns r bs ec ed e = (cc, cc)
+
+-- a reply that keeps both tables where it is accepted keeps them in any case
+keeping : (n : ℕ) (p : Reply) (phys t : List ℕ) → p .phys ≡ phys → p .permissions ≡ t → ((replied n p phys t) .phys ≡ phys) × ((replied n p phys t) .permissions ≡ t)
+unfolding replied
+keeping zero p phys t ep et = (ep, et)
+keeping (suc n) p phys t ep et = (refl, refl)
+
+pub discover-keeps : DiscoverKeeps
+unfolding outcomeOf discoverReply
+discover-keeps w phys t phy carried changes request response set f a bs e =
+    let q = is-10 w phys t phy carried changes request f in
+    let k = keeping (firstRefusal (discoverChecks w phys t phy carried request)) _ phys t refl refl in
+    tables-kept _ _ phys t _ _ _ _ a bs (ap (λ (p : Reply). p .phys) q ∙ k .0) (ap (λ (p : Reply). p .permissions) q ∙ k .1) e

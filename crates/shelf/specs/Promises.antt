@@ -1,7 +1,7 @@
 -- What is promised, for every row width w: of document 01's shelf, w = 16, and of the small shelf, w = 1. The proofs are in proofs/: Answers.antt
 -- (Refusals, TurnedDown), Exactly.antt (ExactlyOne), Worked.antt (Cases, whose rows are in Cases.antt, and LaterToo), Histories.antt (History,
 -- BothWays, NoOpen, NoBroadcast, NoDiscover), WidePorts.antt (ToldPermitted, ToldOnce, EachPortTold, NoReturn, LeavesPort), Apart.antt (AllHeld,
--- NoOpenApart, NoBroadcastApart, NoDiscoverApart), Outside.antt (NoGroupNoAnswer, CarriedUnread, Skipped), Learned.antt (LearnsNothingElse) and Shut.antt
+-- NoOpenApart, NoBroadcastApart, NoDiscoverApart), Outside.antt (NoGroupNoAnswer, CarriedUnread, Skipped), Learned.antt (LearnsNothingElse, DiscoverKeeps) and Shut.antt
 -- (Counted, Supervisor, ShutOut). Quotes are of the three demands, docs/PROMISES.md, of document 01 and of document 02.
 use mathlib.Core.Path.{_≡_}
 use mathlib.Core.Bool.{Bool, true, false}
@@ -243,7 +243,7 @@ permittedTo w s i = sourceReaches w (s .permissions) (sourceOf s) (phyGroup (s .
 abbrev pub recordOf : Shelf → ℕ → List ℕ
 recordOf s i = take phyRecord (drop (phyRecord * i) (s .phys))
 
--- a premise below, by name: the worked pairs of Learn.antt break one at a time, the theorem none
+-- a premise of `Alike`, by name: the worked pairs of crate `learned` break one at a time, the theorem none
 pub data Premise : Type 0 where
   none : Premise
   sizes : Premise
@@ -262,7 +262,7 @@ placeOf readiness = 4
 placeOf permission = 5
 placeOf records = 6
 
--- that A does not hold, where it is the broken premise; else that it does
+-- that a premise does not hold, where it is the broken one; else that it does
 abbrev pub Broken : Bool → Type 0 → Type 0
 Broken true A = A → ⊥
 Broken false A = A
@@ -270,7 +270,7 @@ Broken false A = A
 abbrev pub Unless : Premise → Premise → Type 0 → Type 0
 Unless broken premise A = Broken (eqb (placeOf broken) (placeOf premise)) A
 
--- request 04's premises on two shelves, a field for each of its words
+-- request 04's premises on two shelves, a field for each of its words. Where `broken` is none each field says what stands in its brackets.
 pub record Alike (broken : Premise) (w : ℕ) (a b : Shelf) : Type 0 where
   -- "take two shelves with right .. lent sizes". The proof does not use it: a wrong size is refused on both.
   pub rightSizes : ((physSized (a .phys) ≡ true) × (permissionsSized w (a .permissions) ≡ true))
@@ -281,15 +281,14 @@ pub record Alike (broken : Premise) (w : ℕ) (a b : Shelf) : Type 0 where
   pub sameCounts : Unless broken counts (a .changes ≡ b .changes)
   -- the same buffers lent for response and set, in size and in bytes
   pub equalBuffers : Unless broken buffers ((a .response ≡ b .response) × (a .set ≡ b .set))
-  -- "and one caller on the same phy"
+  -- "and one caller on the same phy". The proof uses it for refusal 2 alone.
   pub samePhy : a .phy ≡ b .phy
   -- "ready in both"
   pub readyInBoth : Unless broken readiness ((ready (a .phys) (a .phy) ≡ true) × (ready (b .phys) (b .phy) ≡ true))
-  -- "participating in both or neither", "with the same carried byte". The proof uses neither: with the same source group they say no more that
-  -- counts.
+  -- "participating in both or neither", "with the same carried byte". The proof uses neither: the same source group says all of them that counts.
   pub participatingAlike : participating (a .phys) (a .phy) ≡ participating (b .phys) (b .phy)
   pub sameCarried : a .carried ≡ b .carried
-  -- "and source group"
+  -- "and source group". The proof uses that both are groups or neither is: each shelf's permitted phys go by its own.
   pub sameSource : sourceOf a ≡ sourceOf b
   -- "If the same phys are permitted to that group in both": phy i in the one exactly if it is in the other
   pub samePermitted : Unless broken permission ((i : ℕ) → i < phyCount (a .phys) → permittedTo w a i ≡ permittedTo w b i)
@@ -310,6 +309,13 @@ abbrev pub LearnsNothingElse : Type 0
 LearnsNothingElse =
     (w : ℕ) (a b : Shelf) → Alike none w a b → (request : List ℕ) → functionOf request ≡ 0x10 → ignoresGroups request ≡ false
     → gets w a request ≡ gets w b request
+
+-- so asking often tells no more than asking once: whatever a request with function 10h is answered, both tables (buffers 0 and 1) are as they were
+abbrev pub DiscoverKeeps : Type 0
+DiscoverKeeps =
+    (w : ℕ) (phys t : List ℕ) (phy carried : ℕ) (changes : Changes) (request response set : List ℕ) → functionOf request ≡ 0x10
+    → (a : Answer) (bs : List (List ℕ)) → outcomeOf w (smp phys phy carried changes request response set) t ≡ out a bs
+    → (getD bs 0 [] ≡ phys) × (getD bs 1 [] ≡ t)
 
 -- ---- The count
 

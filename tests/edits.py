@@ -79,7 +79,8 @@ def read(crates, logs):
         log = logs / name / '.log'
         said = log.read_text(errors='replace') if log.is_file() else ''
         error = first_error(said)
-        changes, folders = edit.read_text(), parts(edit.read_text())
+        changes = edit.read_text()
+        folders = parts(changes)
         both = {'src', 'specs'} <= folders
         proved = [f for f in changed(changes, edit.parent.parent) if not both and re.search(rf'^fn \w+::{f}: proved$', said, re.M)]
         if 'proofs' in folders and not both:

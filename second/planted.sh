@@ -1,12 +1,22 @@
 #!/bin/sh
 # Plants one error at a time in a copy of the model, and expects differ to find it.
 #
-# planted.sh LARGE-DRIVER SMALL-DRIVER [SEED]    the driver commands over libshelf_c.a and libsmall_c.a
+# planted.sh LARGE-DRIVER SMALL-DRIVER [SEED [HALF]]    the driver commands over libshelf_c.a and libsmall_c.a; HALF is 0 or 1, and
+# plants every second error. Without it both halves run side by side: one by itself leaves a core idle most of the time.
 set -eu
 here=$(cd "$(dirname "$0")" && pwd)
 large_driver=$1
 small_driver=$2
 seed=${3:-6201}
+if [ $# -lt 4 ]; then
+    status=0
+    "$here/planted.sh" "$large_driver" "$small_driver" "$seed" 0 &
+    "$here/planted.sh" "$large_driver" "$small_driver" "$seed" 1 || status=1
+    wait $! || status=1
+    exit $status
+fi
+half=$4
+number=0
 calls=300000
 work=$(mktemp -d)
 trap 'rm -rf "$work"' EXIT
@@ -24,6 +34,8 @@ plant() {
     profile=$1
     driver=$2
     shift 2
+    number=$((number + 1))
+    [ $((number % 2)) -eq "$half" ] || return 0
     rm -rf "$work/second"
     mkdir "$work/second"
     cp -r "$here/Cargo.toml" "$here/Cargo.lock" "$here/build.rs" "$here/src" "$work/second/"

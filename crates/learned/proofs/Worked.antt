@@ -4,7 +4,7 @@
 use mathlib.Core.Path.{_≡_, refl, sym, ap, _∙_}
 use mathlib.Core.Bool.{Bool, true, false}
 use mathlib.Core.List.{List, _++_}
-use Prim.Native.Nat.{ℕ, _<_}
+use Prim.Native.Nat.{ℕ}
 use native.Mathlib.Omega.{arith}
 use borrow.Author.Tests.{eq-eqb}
 use lib.ListN.{length, getD, replicate}
@@ -31,9 +31,9 @@ use Rattle.rules.specs.Rules.{smpReply, lengthField}
 use Rattle.rack.specs.Rack.{rack, flat, rackTable}
 use Rattle.shelf.specs.Calls.{outcomeOf}
 use Rattle.shelf.specs.Cases.{discover}
-use Rattle.shelf.specs.Promises.{Shelf, Premise, none, sizes, counts, buffers, readiness, permission, records, Alike, sourceOf, permittedTo, recordOf}
+use Rattle.shelf.specs.Promises.{Shelf, none, sizes, counts, buffers, readiness, permission, records, Alike, sourceOf, permittedTo, recordOf}
 use Rattle.shelf.proofs.Learned.{learns-nothing-else}
-use Rattle.learned.specs.Pairs.{put, members, ordered, here, neighbours, reordered, elsewhere, Pair, Pairs, otherAddress, otherGroup, noOrder, notReady, otherCounts, oneMore, otherBuffer, byteOf, NotIdle, opens, Channels, Worked}
+use Rattle.learned.specs.Pairs.{put, members, ordered, here, neighbours, reordered, elsewhere, Pair, Pairs, otherAddress, otherGroup, noOrder, notReady, otherCounts, oneMore, otherBuffer, byteOf, opens, Worked}
 
 -- ---- computed at both widths: which of the groups that phys are in group 4 reaches, on the two shelves of the pair, and the tables' sizes
 pub record Computed (w : ℕ) : Type 0 where

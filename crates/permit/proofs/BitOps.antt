@@ -1,33 +1,21 @@
--- The masks, and `&`, `|` and `!` with one, in the words of `bit` and `setBit`.
+-- `|` with a mask, and `&` with `!` of one, in the words of `setBit`; and a byte by its bits.
 -- Assumes nothing.
 use mathlib.Core.Path.{_≡_, refl, sym, ap, ap₂, _∙_}
-use mathlib.Core.Bool.{Bool, true, false, not}
-use mathlib.Core.List.{List, [], _∷_}
+use mathlib.Core.Bool.{Bool, true, false}
 use Prim.Native.Nat.{ℕ, zero, suc, _+_, _-_, _*_, _/_, _%_, _^_, _<_, max}
-use native.Mathlib.Nat.{mod-lt, mod-mod, mod-eq-of-lt, add-zero, pow-suc}
+use native.Mathlib.Nat.{mod-lt, mod-mod, mod-eq-of-lt, add-zero, one-mul, pow-suc}
 use native.Mathlib.Omega.{arith}
-use borrow.Author.Tests.{ne-eqb}
 use lib.Dec.{eqb}
-use lib.ListN.{getD}
-use lib.Pow.{pow-pos, split, ones-lt, shr-shr}
-use lib.Bits.{bitAnd, bitOr, and-mask, and-block, and-high, or-block, or-step, or-zero-r, and-zero-r}
+use lib.Pow.{pow-pos, split, ones-lt, shl-exact, shr-shr}
+use lib.Bits.{bitAnd, bitOr, and-mask, and-block, and-high, or-block, or-step, or-zero-r}
 use Rattle.wire.specs.Bits.{num, bit, setBit}
 use Rattle.wire.proofs.BitLaws.{each8}
 use Rattle.permit.specs.Masks.{Masked}
 
--- the last mask, where k is none of the seven numbers before it
-pub mask-last : (k : ℕ) → k < 8 → (k ≡ 0 → ⊥) → (k ≡ 1 → ⊥) → (k ≡ 2 → ⊥) → (k ≡ 3 → ⊥) → (k ≡ 4 → ⊥) → (k ≡ 5 → ⊥) → (k ≡ 6 → ⊥) → 128 ≡ 2 ^ k
-mask-last =
-    each8
-    (λ (k : ℕ). (k ≡ 0 → ⊥) → (k ≡ 1 → ⊥) → (k ≡ 2 → ⊥) → (k ≡ 3 → ⊥) → (k ≡ 4 → ⊥) → (k ≡ 5 → ⊥) → (k ≡ 6 → ⊥) → 128 ≡ 2 ^ k)
-    (λ a b c d e f g. absurd (a refl))
-    (λ a b c d e f g. absurd (b refl))
-    (λ a b c d e f g. absurd (c refl))
-    (λ a b c d e f g. absurd (d refl))
-    (λ a b c d e f g. absurd (e refl))
-    (λ a b c d e f g. absurd (f refl))
-    (λ a b c d e f g. absurd (g refl))
-    (λ a b c d e f g. refl)
+-- ---- `1 << k`
+-- a group's bit is not shifted out of the byte
+pub one-shifted : (group : ℕ) → 1 * 2 ^ (group % 8) % 256 ≡ 2 ^ (group % 8)
+one-shifted group = shl-exact 1 (group % 8) 8 (omega arith) (omega arith) ∙ one-mul (2 ^ (group % 8))
 
 -- ---- `x | m`
 -- a power of two, as a block of k bits
@@ -46,29 +34,6 @@ or-bit x k =
     ap₂ (λ (a b : ℕ). bitOr a b) (sym (split x k)) (as-block k)
     ∙ or-block k (x / 2 ^ k) 1 (x % 2 ^ k) 0 (mod-lt x (pow-pos k)) (pow-pos k)
     ∙ ap₂ (λ (a b : ℕ). a * 2 ^ k + b) (or-one (x / 2 ^ k)) (or-zero-r (x % 2 ^ k))
-
--- ---- `x & m != 0`
-and-bit : (x k : ℕ) → bitAnd x (2 ^ k) ≡ bit x k * 2 ^ k
-unfolding bit
-and-bit x k =
-    ap₂ (λ (a b : ℕ). bitAnd a b) (sym (split x k)) (as-block k)
-    ∙ and-block k (x / 2 ^ k) 1 (x % 2 ^ k) 0 (mod-lt x (pow-pos k)) (pow-pos k)
-    ∙ ap₂ (λ (a b : ℕ). a * 2 ^ k + b) (and-mask (x / 2 ^ k) 1) (and-zero-r (x % 2 ^ k))
-    ∙ omega arith
-
-pub bit-lt : (x k : ℕ) → bit x k < 2
-unfolding bit
-bit-lt x k = omega arith
-
-pub and-test : (x k : ℕ) → not (eqb (bitAnd x (2 ^ k)) 0) ≡ eqb (bit x k) 1
-and-test x k = ap (λ (n : ℕ). not (eqb n 0)) (and-bit x k) ∙ go (bit x k) (bit-lt x k)
-  where
-    go : (b : ℕ) → b < 2 → not (eqb (b * 2 ^ k) 0) ≡ eqb b 1
-    go zero h = let e : 0 * 2 ^ k ≡ 0 = omega arith in rw e
-    go (suc zero) h =
-        let e : 1 * 2 ^ k ≡ 0 → ⊥ = λ z. omega (arith, pow-pos k) in
-        rw (ne-eqb (1 * 2 ^ k) 0 e)
-    go (suc (suc b)) h = absurd (omega arith)
 
 -- ---- `x & !m`
 -- the ones above bit k and below it
@@ -120,6 +85,10 @@ bits-ext (suc n) x y hx hy h =
 
     down : (z k : ℕ) → z / 2 / 2 ^ k % 2 ≡ z / 2 ^ suc k % 2
     down z k = ap (λ (m : ℕ). m % 2) (shr-shr z 1 k ∙ ap (λ (m : ℕ). z / 2 ^ m) (one-add k))
+
+pub bit-lt : (x k : ℕ) → bit x k < 2
+unfolding bit
+bit-lt x k = omega arith
 
 pub bit-ext : (x y k : ℕ) → eqb (bit x k) 1 ≡ eqb (bit y k) 1 → bit x k ≡ bit y k
 bit-ext x y k e = by-num (bit x k) (bit-lt x k) ∙ ap num e ∙ sym (by-num (bit y k) (bit-lt y k))

@@ -1,24 +1,16 @@
 -- Which groups reach which, of all groups, for any row width.
 -- Assumes nothing.
-use mathlib.Core.Path.{_≡_, refl, sym, ap, _∙_}
-use mathlib.Core.Bool.{Bool, true, false, cond, not, _&&_, _||_, or-comm}
+use mathlib.Core.Path.{_≡_, refl, sym, _∙_}
+use mathlib.Core.Bool.{Bool, true, false, cond, _&&_, _||_, or-comm}
 use mathlib.Core.List.{List}
-use Prim.Native.Nat.{ℕ, zero, suc, _+_, _%_, _^_, _≤_, _<_}
+use Prim.Native.Nat.{ℕ, zero, suc, _+_, _≤_, _<_}
 use native.Mathlib.Decide.{decLt}
 use native.Mathlib.Omega.{arith}
 use borrow.Author.Tests.{lt-ltb, le-ltb}
 use lib.Dec.{eqb, ltb}
-use lib.ListN.{getD}
-use lib.Bits.{bitAnd}
-use Rattle.permit.specs.Permission.{groups, place, P, reaches}
+use Rattle.permit.specs.Permission.{groups, P, reaches}
 use Rattle.permit.specs.Orders.{rowsEnd}
-use Rattle.permit.proofs.BitOps.{and-test}
 use Rattle.permit.proofs.Laws.{Mutual}
-
--- ---- the bit, as the code reads it
-pub bit-read : (w : ℕ) (t : List ℕ) (a b i m : ℕ) → i ≡ place w a b → m ≡ 2 ^ (b % 8) → not (eqb (bitAnd (getD t i 0) m) 0) ≡ P w t a b
-unfolding P
-bit-read w t a b i m ei em = rw (em, ei) (and-test (getD t (place w a b) 0) (b % 8))
 
 -- ---- the three cases of `reaches`
 module _ (w : ℕ) (t : List ℕ) (a b : ℕ) (x : Bool) where

@@ -10,21 +10,11 @@ ghost use Rattle.permit.specs.Permission.{groups, tableSize, permissions
 ghost use Rattle.permit.specs.Masks.{Masked};
 ghost use Rattle.permit.specs.Start.{Between, rowAgain};
 
-// The bit of a group within its byte: eight masks, told apart by a match, since a table in a local is copied at each use.
+// The bit of a group within its byte, by itself: bit group mod 8.
 pub fn mask(group: usize) -> u8
     ensures { λ r. ⌜ r ≡ 2 ^ (group % 8) ⌝ }
 {
-    let k = group % 8;
-    match k {
-        0 => 1,
-        1 => 2,
-        2 => 4,
-        3 => 8,
-        4 => 16,
-        5 => 32,
-        6 => 64,
-        _ => 128,
-    }
+    1 << (group % 8)
 }
 
 // How many bytes the table has.
@@ -59,13 +49,13 @@ pub fn byte_at(width: usize, row: usize, group: usize) -> usize
     row_at(width, row) + width - 1 - group / 8
 }
 
-// Group `group` of row `row`.
+// Group `group` of row `row`: bit group mod 8 of its byte.
 fn row_has(width: usize, permissions: &[u8], row: usize, group: usize) -> bool
     requires { ⌜ Whole width (now permissions) row group ⌝ }
     ensures { λ r. ⌜ r ≡ P width (now (permissions .entry)) row group ⌝ }
 {
     let at = byte_at(width, row, group);
-    permissions[at] & mask(group) != 0
+    (permissions[at] >> (group % 8)) % 2 == 1
 }
 
 // What is said of two groups of which the table does not hold both.

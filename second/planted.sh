@@ -60,6 +60,8 @@ plant() {
 missed=0
 large 'rows read and written from the wrong end' permission.rs '(WIDTH - 1 - group \/ 8, group % 8)' \
     '(group \/ 8, group % 8)'
+large "a group's bit read from the wrong end of its byte" permission.rs 'row\[byte\] >> bit & 1' 'row[byte] >> (7 - bit) \& 1'
+large 'an order written to the next bit' permission.rs 'u8::from(on) << bit' 'u8::from(on) << (bit + 1) % 8'
 large 'the fill of an odd k judged as a descriptor' smp.rs '\[\.\.2 \* k\]' '[..2 * k + fill]'
 large 'OPEN: a participating phy speaks for its own group' speaking.rs 'Group::low_7_bits(zone_byte)' 'arriving.group'
 large 'a participating phy speaks for its own group' speaking.rs 'Group::from_outside(carried).ok_or(Refusal::Kind)' \

@@ -2,7 +2,8 @@
 """What each must-fail edit was refused at. Reads the first error of every log that rt ci leaves, prints how many there are of each kind, and
 fails where an edit has no log, or was refused only because a proof no longer fits the code's shape: that shows nothing of what the edit gets
 wrong, since a right change of the same shape would be refused as well. A kind that is not listed here fails too: somebody has to look at it.
-An edit may get several functions wrong, each by itself: then every function whose code it changes must be refused, and not only the first.
+An edit may get several functions wrong, each by itself: then every function whose code it changes must be refused at a fact, by an error of its
+own. A function that calls one that is refused is left unproved too, which shows nothing of it.
 An edit may change a definition and the code together, so that the one still meets the other: then no function may be refused, and the first error
 is in a law of the definition. It may change the proofs of the two as well, which no other edit may.
 
@@ -23,16 +24,30 @@ KINDS = [
     ('a comparison is false', r'does not hold'),
     ('what is shown is another statement', r'the two types (first )?differ|expected type `'),
 ]
+FACTS = dict(KINDS[1:])
 WORDS = ('`search`', '`omega`', '`cc`', '`rw`', '`simp`')
 
 
-def first_error(log):
-    """The first error that does not only follow from another; else, where that other is in a proof of the prover's own, the first note with a place."""
-    errors = re.finditer(r'^(\S+): error: (?:`[^`]*`: )?(.*(?:\n[ \t].*)*)', log, re.M)
-    notes = re.finditer(r'^note: (\S+:\d+:\d+): (.*)', log, re.M)
-    own = (found for found in errors if not re.match(r'`[^`]*` was not admitted', found[2]))
-    found = next(own, None) or next(notes, None)
-    return found and (found[1], found[2])
+def errors(log):
+    """(place, error) of each error that does not only follow from another, and then, for those in a proof of the prover's own, of each note with a place."""
+    said = re.findall(r'^(\S+): error: (?:`[^`]*`: )?(.*(?:\n[ \t].*)*)', log, re.M)
+    notes = re.findall(r'^note: (\S+:\d+:\d+): (.*)', log, re.M)
+    return [error for error in said if not re.match(r'`[^`]*` was not admitted', error[1])] + notes
+
+
+def heads(source):
+    """The functions of a source, each as it is found in it."""
+    return list(re.finditer(r'^(?:pub )?(?:extern "C" )?fn (\w+)', source, re.M))
+
+
+def inside(function, crate, place):
+    """Whether an error is placed in a function: in its proof, or, where the prover makes that itself, in its code. No change makes a line more or less."""
+    found = re.search(r'/(src/\w+\.rt):(\d+):', place)
+    if not found:
+        return f'/proofs/{function}/' in place
+    source = (crate / found[1]).read_text()
+    above = [head[1] for head in heads(source) if source.count('\n', 0, head.start()) < int(found[2])]
+    return above[-1:] == [function]
 
 
 def changed(edit, crate):
@@ -47,7 +62,7 @@ def changed(edit, crate):
         before, _, behind = source.partition(old)
         line = before.rpartition('\n')[2] + old
         kept = contracts if re.match(r'\s*(requires|ensures)', line) else names
-        kept.update(re.findall(r'^(?:pub )?(?:extern "C" )?fn (\w+)', before, re.M)[-1:])
+        kept.update(head[1] for head in heads(before)[-1:])
         sources[file] = before + new + behind
     return sorted(names - contracts)
 
@@ -72,23 +87,38 @@ def kind(message):
     return next((name for name, pattern in KINDS if re.search(pattern, words)), UNKNOWN)
 
 
+def unseen(functions, crate, said):
+    """What is wrong with the log of an edit that gets several functions wrong: the first of them that has no error of its own, or none at a fact."""
+    for function in functions:
+        own = next((message for place, message in errors(said) if inside(function, crate, place)), None)
+        if own is None:
+            return 'a function that it changes has no error of its own', function
+        if kind(own) not in FACTS:
+            return kind(own), f'{function}: ' + ' '.join(own.split())
+    return None
+
+
 def read(crates, logs):
     """(edit, kind, first error) of each edit."""
     for edit in sorted(crates.glob('*/must-fail/*.edit')):
         name = f'{edit.parts[-3]}/{edit.stem}'
         log = logs / name / '.log'
         said = log.read_text(errors='replace') if log.is_file() else ''
-        error = first_error(said)
+        error = next(iter(errors(said)), None)
         changes = edit.read_text()
+        crate = edit.parent.parent
         folders = parts(changes)
         both = {'src', 'specs'} <= folders
-        proved = [f for f in changed(changes, edit.parent.parent) if not both and re.search(rf'^fn \w+::{f}: proved$', said, re.M)]
+        functions = [] if both else changed(changes, crate)
+        proved = [f for f in functions if re.search(rf'^fn \w+::{f}: proved$', said, re.M)]
         if 'proofs' in folders and not both:
             yield name, 'it changes a proof', ''
         elif error and both and together(error, said):
             yield name, *together(error, said)
         elif error and proved:
             yield name, 'a function that it changes is proved', ', '.join(proved)
+        elif error and len(functions) > 1 and unseen(functions, crate, said):
+            yield name, *unseen(functions, crate, said)
         elif error:
             place, message = error
             yield name, kind(message), f'{place.split(name + "/")[-1]}: ' + ' '.join(message.split())
@@ -97,11 +127,12 @@ def read(crates, logs):
 
 
 def bad(found):
-    return [f'{name}: {kind}: {error[:300]}' for name, kind, error in found if kind not in dict(KINDS[1:])]
+    return [f'{name}: {kind}: {error[:300]}' for name, kind, error in found if kind not in FACTS]
 
 
 def can_fail():
     """Made-up logs: those that show nothing are named, the others are not."""
+    F, G = ('/x/proofs/%s/Proof.antt:1:1: error: `x`: ' % function for function in 'fg')
     samples = {
         'fact': '/p: error: `returns`: `search`: no proof of `a has no field `\n  was found.\n',
         'own_proof': 'fn a: proved\nnote: /src/lib.rt:1:1: it is not proved that what the function ensures holds (`returns`)\n',
@@ -113,8 +144,14 @@ def can_fail():
         'only_follows': '/p: error: `x`: `close` was not admitted, so\n',
         'other': '/p: error: `x`: something else\n',
         'silent': 'fn a: proved\n',
-        'one_of_two': '/p: error: `x`: `omega`: it fails\nfn c::f: proved\nfn c::g: not proved\n',
-        'both': '/p: error: `x`: `omega`: it fails\nfn c::f: not proved\nfn c::g: no proof\n',
+        'one_of_two': f'{F}`omega`: it fails\n{G}`omega`: it fails\nfn c::f: proved\nfn c::g: not proved\n',
+        'both': f'{F}`omega`: it fails\n{G}`close` was not admitted, so\n{G}`omega`: it fails\nfn c::f: not proved\nfn c::g: no proof\n',
+        'both_noted': f'{F}`omega`: it fails\nnote: /x/src/lib.rt:8:5: it is not proved that it returns\nfn c::f: not proved\nfn c::g: no proof\n',
+        'both_later_shape': f'{F}`omega`: it fails\n{F}`tie` has no `Need-2`\n{G}`omega`: it fails\nfn c::f: not proved\nfn c::g: not proved\n',
+        'second_follows': f'{F}`omega`: it fails\n{G}`close` was not admitted, so\nfn c::f: not proved\nfn c::g: not proved\n',
+        'second_shape': f'{F}`omega`: it fails\n{G}`tie` has no `Need-2`\n{G}`omega`: it fails\nfn c::f: not proved\nfn c::g: not proved\n',
+        'second_other': f'{F}`omega`: it fails\n{G}something else\nfn c::f: not proved\nfn c::g: not proved\n',
+        'noted_elsewhere': f'{F}`omega`: it fails\nnote: /x/src/lib.rt:4:5: it is not proved that it returns\nfn c::f: not proved\nfn c::g: no proof\n',
         'with_contract': '/p: error: `x`: `omega`: it fails\nfn c::f: proved\nfn c::g: not proved\n',
         'agree': '/x/proofs/Law.antt:1:1: error: `x`: `omega`: it fails\nfn c::f: proved\nfn c::g: proved\n',
         'agree_not': '/x/proofs/Law.antt:1:1: error: `x`: `omega`: it fails\nfn c::f: proved\nfn c::g: not proved\n',
@@ -131,13 +168,14 @@ def can_fail():
             two = 'file: src/lib.rt\nold: return 1\nnew: return 3\nfile: src/lib.rt\nold: return 2\nnew: return 3\n'
             contract = 'file: src/lib.rt\nold: one\nnew: three\n' if name == 'with_contract' else ''
             rule = 'file: specs/S.antt\nold: one\nnew: three\n' if name.startswith('agree') else ''
-            edited = contract + rule + two if name in ('one_of_two', 'both', 'with_contract') or rule else ''
+            edited = contract + rule + two if name.split('_')[0] in ('one', 'both', 'second', 'noted', 'with') or rule else ''
             (crates / f'c/must-fail/{name}.edit').write_text('file: proofs/P.antt\nold: one\nnew: three\n' if name == 'proof' else edited)
             if log is not None:
                 (logs / 'c' / name).mkdir(parents=True)
                 (logs / 'c' / name / '.log').write_text(log)
         named = [line.split(':')[0] for line in bad(read(crates, logs))]
-    if named != ['c/agree_no_law', 'c/agree_not', 'c/follows_shape', 'c/lost', 'c/no_field', 'c/no_need', 'c/one_of_two', 'c/only_follows', 'c/other', 'c/proof', 'c/silent']:
+    if named != ['c/agree_no_law', 'c/agree_not', 'c/follows_shape', 'c/lost', 'c/no_field', 'c/no_need', 'c/noted_elsewhere', 'c/one_of_two', 'c/only_follows', 'c/other', 'c/proof', 'c/second_follows',
+                 'c/second_other', 'c/second_shape', 'c/silent']:
         sys.exit(f'edits.py: of the made-up logs these are refused: {named}')
 
 

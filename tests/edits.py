@@ -38,8 +38,8 @@ def errors(log):
 
 
 def heads(source):
-    """The functions of a source, each as it is found in it."""
-    return list(re.finditer(r'^(?:pub )?(?:extern "C" )?fn (\w+)', source, re.M))
+    """The functions of a source, each as it is found in it, from its attributes on."""
+    return list(re.finditer(r'^(?:#\[.*\]\n)*(?:pub )?(?:extern "C" )?fn (\w+)', source, re.M))
 
 
 def in_function(function, crate, place, _):
@@ -168,7 +168,7 @@ def can_fail():
         'silent': 'fn a: proved\n',
         'one_of_two': f'{F}`omega`: it fails\n{G}`omega`: it fails\nfn c::f: proved\nfn c::g: not proved\n',
         'both': f'{F}`omega`: it fails\n{G}`close` was not admitted, so\n{G}`omega`: it fails\nfn c::f: not proved\nfn c::g: no proof\n',
-        'both_noted': f'{F}`omega`: it fails\nnote: /x/src/lib.rt:8:5: it is not proved that it returns\nfn c::f: not proved\nfn c::g: no proof\n',
+        'both_noted': f'{F}`omega`: it fails\nnote: /x/src/lib.rt:7:1: it is not proved that it returns\nfn c::f: not proved\nfn c::g: no proof\n',
         'both_later_shape': f'{F}`omega`: it fails\n{F}`tie` has no `Need-2`\n{G}`omega`: it fails\nfn c::f: not proved\nfn c::g: not proved\n',
         'second_follows': f'{F}`omega`: it fails\n{G}`close` was not admitted, so\nfn c::f: not proved\nfn c::g: not proved\n',
         'second_shape': f'{F}`omega`: it fails\n{G}`tie` has no `Need-2`\n{G}`omega`: it fails\nfn c::f: not proved\nfn c::g: not proved\n',
@@ -190,7 +190,7 @@ def can_fail():
         crates, logs = pathlib.Path(work, 'crates'), pathlib.Path(work, 'logs')
         (crates / 'c/must-fail').mkdir(parents=True)
         (crates / 'c/src').mkdir()
-        (crates / 'c/src/lib.rt').write_text('fn f()\n    ensures one\n{\n    return 1;\n}\n\npub extern "C" fn g() {\n    return 2;\n}\n')
+        (crates / 'c/src/lib.rt').write_text('fn f()\n    ensures one\n{\n    return 1;\n}\n\n#[no_mangle]\npub extern "C" fn g() {\n    return 2;\n}\n')
         for folder, file, text in (
             ('specs', 'Promises.antt', 'abbrev pub One : Type 0\nOne = first\n\nabbrev pub Two : Type 0\nTwo = second\n\npub record Three : Type 0 where\n  pub of : third\n'),
             ('proofs', 'Laws.antt', 'pub one : One\none = x\n\nlemma : Two\nlemma = x\n\npub two : Two\ntwo = x\n'),

@@ -1,0 +1,2 @@
+pub mod Clamped
+pub mod Unique

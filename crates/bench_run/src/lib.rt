@@ -14,18 +14,6 @@ struct Window {
     go: bool,
 }
 
-// Moves the unread bytes to the front and reads once behind them. Answers how many bytes the window then has.
-fn refill(fd: i32, window: &mut [u8], at: usize, have: usize) -> usize
-    requires { ⌜ (at ≤ have) × (have ≤ length (now window)) ⌝ }
-    ensures { λ r. ⌜ r ≤ length (now (window .exit)) ⌝ }
-{
-    let n = have - at;
-    bench_text::keep(window, at, n);
-    let end = window.len();
-    let got = libc::read(fd, &mut window[n..end]);
-    n + io::count(got, &window[n..end])
-}
-
 // Runs the unread events and writes their lines, or refills the window where none is whole. The input's end is a refill that brings nothing.
 fn turn(
     fd: i32,
@@ -52,7 +40,7 @@ fn turn(
             go: true,
         };
     }
-    let now_have = refill(fd, window, at, have);
+    let now_have = window::refill(fd, window, at, have);
     Window {
         at: 0,
         have: now_have,

@@ -1,6 +1,5 @@
 pub mod StreamLaws
 pub mod RunLaws
-pub mod KeepLaws
 pub mod Whole
 pub mod Unique
 pub mod Worked

@@ -1,10 +1,10 @@
 // The bench's text below the program: a run over the whole events of a window, and the end of the input.
 ghost use mathlib.Core.Path.{_≡_};
 ghost use Prim.Native.Nat.{_+_, _*_, _<_, _≤_};
-ghost use lib.ListN.{length, take, drop};
+ghost use lib.ListN.{length};
 ghost use Rattle.tables.specs.Phys.{phyRecord};
 ghost use Rattle.events.specs.Events.{eventGives};
-ghost use Rattle.lines.specs.Written.{written, Wrote};
+ghost use Rattle.lines.specs.Written.{Wrote};
 ghost use Rattle.bench_text.specs.Stream.{ending};
 ghost use Rattle.bench_text.specs.Run.{begun, ready, runOver, Told, Within, Put};
 
@@ -93,16 +93,4 @@ pub fn end_line(rest: &[u8], number: u64, text: &mut [u8]) -> usize
         return 0;
     }
     events::cut_line(number, text)
-}
-
-// Moves the n bytes from `from` on to the window's front, so that there is room to read behind them.
-pub fn keep(window: &mut [u8], from: usize, n: usize)
-    requires { ⌜ from + n ≤ length (now window) ⌝ }
-    ensures { λ _. ⌜ now (window .exit) ≡ written (now (window .entry)) 0 (take n (drop from (now (window .entry)))) ⌝ }
-{
-    let mut i: usize = 0;
-    while i < n {
-        window[i] = window[from + i];
-        i += 1;
-    }
 }

@@ -1,10 +1,10 @@
--- `bench_text::keep` meets its contract.
+-- `window::keep` meets its contract.
 -- Assumes nothing.
 use Prim.Native.Nat.{_-_}
 use native.Mathlib.Omega.{arith}
-use Rattle.bench_text.proofs.KeepLaws.{Kept, keep-start, keep-again, keep-end}
-use Rattle.bench_text.proofs.keep.Statement.{statement}
-use Rattle.bench_text.proofs.keep.Tie as tie
+use Rattle.window.proofs.KeepLaws.{Kept, keep-start, keep-again, keep-end}
+use Rattle.window.proofs.keep.Statement.{statement}
+use Rattle.window.proofs.keep.Tie as tie
 
 abbrev Inv-loop : tie.InvT-loop
 Inv-loop window₀ from n i₀ window i =

@@ -1,0 +1,14 @@
+-- `warden_words::least` meets its contract.
+-- Assumes nothing.
+use Rattle.warden_words.proofs.NumberLaws.{least-first, least-second}
+use Rattle.warden_words.proofs.least.Statement.{statement}
+use Rattle.warden_words.proofs.least.Tie as tie
+
+returns : tie.Need-returns
+returns c = search least-first
+
+returns-2 : tie.Need-returns-2
+returns-2 c = search least-second
+
+pub least-spec : {M : Type 1} → statement M
+least-spec = tie.close (tie.spec returns returns-2)

@@ -6,6 +6,7 @@ use crate::tables::RECORD;
 use crate::{Answered, Elected, Opened, Told};
 
 mod alike;
+mod console;
 mod discover;
 mod outside;
 mod ports;

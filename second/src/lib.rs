@@ -1,14 +1,16 @@
 //! The second program: document 01's rules once more, with document 02's requests 01 (wide ports), 02 (groups from newer
-//! shelves), 03 (DISCOVER), 04 (what a member can learn) and 09 (the small shelf), written from their texts alone.
+//! shelves), 03 (DISCOVER), 04 (what a member can learn), 06 (the wardens' console) and 09 (the small shelf), written from
+//! their texts alone.
 //!
 //! `large` has one function for each call of `include/shelf.h` and `small` one for each of `include/small.h`, with the
 //! same meaning for every input: tables and buffers come as slices, numbers as `u32`, and the answer is a plain struct
-//! with the header's fields.
+//! with the header's fields. `console` has those of `include/console.h`, in the same way.
 
 pub mod alike;
 pub mod bench;
 pub mod broadcast;
 pub mod chains;
+pub mod console;
 pub mod discover;
 pub mod links;
 pub mod open;

@@ -1,5 +1,5 @@
-/* Makes the calls of shelf.h, or with SMALL defined those of small.h, that arrive on standard input and writes each answer to
- * standard output.
+/* Makes the calls of shelf.h, or with SMALL defined those of small.h, and those of console.h, that arrive on standard input and
+ * writes each answer to standard output.
  *
  * The protocol, all numbers little-endian, is told in src/trial/call.rs. Buffers lie between guard bytes: a write beside a
  * buffer, or into one that is const, is reported in the answer's second byte. */
@@ -11,11 +11,12 @@
 #define NAMED(name) shelf_##name
 #endif
 
+#include <console.h>
 #include <stdio.h>
 #include <stdlib.h>
 #include <string.h>
 
-enum { SEND_ON = 255, NUMBERS = 4, BUFFERS = 5, FIELDS = 4, GUARD = 64, LARGEST = 1 << 17, STREAM = 1 << 18 };
+enum { SEND_ON = 255, NUMBERS = 4, BUFFERS = 5, FIELDS = 5, GUARD = 64, LARGEST = 1 << 17, STREAM = 1 << 18 };
 
 /* What a call takes: how many numbers and buffers, and which buffers are not const (bit i for buffer i). */
 struct shape {
@@ -32,6 +33,11 @@ static const struct shape shapes[] = {
     {2, 4, 0x0c}, /* primitive */
     {1, 5, 0x18}, /* broadcast_frame */
     {4, 5, 0x1b}, /* smp */
+    {1, 2, 0x01}, /* console_phy_zones */
+    {4, 1, 0x01}, /* console_single */
+    {2, 2, 0x01}, /* console_batch */
+    {2, 1, 0x01}, /* console_report */
+    {0, 2, 0x02}, /* console_read */
 };
 
 static uint32_t n[NUMBERS];
@@ -119,6 +125,19 @@ static void answered(struct NAMED(answered) answer) {
     field[3] = answer.count;
 }
 
+static void built(struct console_built answer) {
+    field[0] = answer.refusal;
+    field[1] = answer.length;
+}
+
+static void heard(struct console_heard answer) {
+    field[0] = answer.refusal;
+    field[1] = answer.function;
+    field[2] = answer.result;
+    field[3] = answer.start;
+    field[4] = answer.count;
+}
+
 static void make_call(int which) {
     memset(field, 0, sizeof field);
     switch (which) {
@@ -135,6 +154,11 @@ static void make_call(int which) {
         answered(NAMED(smp)(b[0], len[0], b[1], len[1], n[0], n[1], n[2], n[3], b[2], len[2], b[3], len[3], b[4],
                             len[4]));
         break;
+    case 8: built(console_phy_zones(b[0], len[0], n[0], b[1], len[1])); break;
+    case 9: built(console_single(b[0], len[0], n[0], n[1], n[2], n[3])); break;
+    case 10: built(console_batch(b[0], len[0], n[0], b[1], len[1], n[1])); break;
+    case 11: built(console_report(b[0], len[0], n[0], n[1])); break;
+    case 12: heard(console_read(b[0], len[0], b[1], len[1])); break;
     }
 }
 

@@ -107,7 +107,7 @@ mod tests {
             let answer = call.model(profile);
             generator.keep(&call, &answer);
             if let Some((told, buffers)) = by_chains::<WIDTH>(call) {
-                let fields = [told.refusal.into(), told.count.into(), 0, 0];
+                let fields = [told.refusal.into(), told.count.into(), 0, 0, 0];
                 assert_eq!(Answer { fields, buffers }, answer);
                 count += told.count;
             }

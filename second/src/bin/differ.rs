@@ -2,16 +2,18 @@
 //!
 //! differ PROFILE DRIVER-COMMAND [CALLS] [SEED]
 //!
-//! PROFILE is large, for include/shelf.h, or small, for include/small.h.
+//! PROFILE is large, for include/shelf.h, or small, for include/small.h. Calls of include/console.h are among both.
 //!
-//! Some calls come in pairs, on two shelves: where request 04 says so, the library must give both the same bytes.
+//! Some calls come in pairs, on two shelves: where request 04 says so, the library must give both the same bytes. Others are
+//! steps of a round trip from the console to a shelf and back, of which request 06 says what the library must give.
 //!
 //! Exits with 0 where the two agreed on every field and every byte, and every class of answers was reached.
 
 use second::trial::alike::Pair;
 use second::trial::call::{Answer, Call, FIELDS, SEND_ON};
+use second::trial::console::trips::Trip;
 use second::trial::coverage::Coverage;
-use second::trial::generate::Generator;
+use second::trial::generate::{Generator, Together};
 use second::trial::profile::Profile;
 use std::io::{BufReader, Read, Write};
 use std::process::{Child, ChildStdin, Command, ExitCode, Stdio};
@@ -105,11 +107,13 @@ fn start(command: &str) -> Result<Child, String> {
         .map_err(|error| format!("{command}: {error}"))
 }
 
-/// A call with the model's answer. Where it is the second of a pair, the first is the one before it in its batch.
+/// A call with the model's answer. Where others were made up together with it, they are next to it in its batch, and all are
+/// judged at the last of them.
 struct Tried {
     call: Call,
     model: Answer,
-    is_second: bool,
+    is_first: bool,
+    ends: Together,
 }
 
 type Batch = Vec<Tried>;
@@ -132,12 +136,17 @@ fn feed(mut driver: ChildStdin, sender: &SyncSender<Batch>, calls: u64, mut gene
     }
 }
 
-/// So many calls. A pair that does not fit in loses its second call.
+/// So many calls. Of those that belong together the last ones are lost where they do not fit in, and the others are not
+/// judged together.
 fn batch(generator: &mut Generator, size: u64) -> Batch {
     let mut batch = Vec::new();
     while (batch.len() as u64) < size {
-        let tried = generator.tried().into_iter().enumerate();
-        batch.extend(tried.map(|(place, (call, model))| Tried { call, model, is_second: place == 1 }));
+        let tried = generator.tried();
+        let last = tried.calls.len() - 1;
+        batch.extend(tried.calls.into_iter().enumerate().map(|(place, (call, model))| {
+            let ends = if place == last { tried.together } else { Together::Alone };
+            Tried { call, model, is_first: place == 0, ends }
+        }));
     }
     batch.truncate(size as usize);
     batch
@@ -147,7 +156,7 @@ fn compare_all(arguments: &Arguments, mut answers: impl Read, receiver: &Receive
     let mut coverage = Coverage::new(arguments.profile);
     let mut number = 0u64;
     for batch in receiver {
-        let mut before: Option<Answer> = None;
+        let mut together: Vec<Answer> = Vec::new();
         for (place, tried) in batch.iter().enumerate() {
             number += 1;
             let library = compare(&mut answers, tried).map_err(|disagreement| match disagreement {
@@ -157,12 +166,13 @@ fn compare_all(arguments: &Arguments, mut answers: impl Read, receiver: &Receive
                 Disagreement::Told(why) => format!("call {number}: {why}"),
             })?;
             coverage.count(&tried.call, &library);
-            if let Some(first) = before.filter(|_| tried.is_second) {
-                let pair = Pair { calls: [&batch[place - 1].call, &tried.call], answers: [&first, &library] };
-                compare_pair(arguments.profile, &pair).map_err(|why| format!("call {number}: {why}"))?;
-                coverage.count_pair(&pair);
+            if tried.is_first {
+                together.clear();
             }
-            before = Some(library);
+            together.push(library);
+            let calls = batch[place + 1 - together.len()..=place].iter().map(|tried| &tried.call).collect();
+            judge_together(arguments.profile, tried.ends, calls, &together, &mut coverage)
+                .map_err(|why| format!("call {number}: {why}"))?;
         }
     }
     let mut rest = Vec::new();
@@ -215,6 +225,39 @@ fn compare(answers: &mut impl Read, Tried { call, model, .. }: &Tried) -> Result
         return Ok(library);
     };
     Err(Disagreement::Told(why))
+}
+
+/// What is asked of the library's answers to calls that were made up together.
+fn judge_together(
+    profile: Profile,
+    together: Together,
+    calls: Vec<&Call>,
+    answers: &[Answer],
+    coverage: &mut Coverage,
+) -> Result<(), String> {
+    match (together, calls.as_slice(), answers) {
+        (Together::Pair, &[one, other], [of_one, of_other]) => {
+            let pair = Pair { calls: [one, other], answers: [of_one, of_other] };
+            compare_pair(profile, &pair)?;
+            coverage.count_pair(&pair);
+        }
+        (Together::Trip, ..) => {
+            let trip = Trip { calls, answers: answers.iter().collect() };
+            compare_trip(profile, &trip)?;
+            coverage.count_trip(&trip);
+        }
+        _ => {}
+    }
+    Ok(())
+}
+
+/// The library's answers on a round trip, where they are not what request 06 says.
+fn compare_trip(profile: Profile, trip: &Trip) -> Result<(), String> {
+    trip.judge(profile).map_err(|why| {
+        let steps = trip.calls.iter().zip(&trip.answers);
+        let steps = steps.map(|(call, answer)| format!("{}  fields: {:x?}\n", told(call), answer.fields));
+        format!("the two disagree: a round trip, {why}\n{}", steps.collect::<String>())
+    })
 }
 
 /// The library's answers to two calls, where request 04 says that they are the same.

@@ -6,7 +6,7 @@
 use super::*;
 use crate::alike::{broken, is_spoken_of, Caller, Premise};
 use crate::tables::{LARGE, SMALL};
-use crate::trial::call::{Answer, Call};
+use crate::trial::call::{Answer, Call, FIELDS};
 use crate::trial::profile::Profile;
 
 /// A shelf, and all that the caller hands in and lends beside its request.
@@ -80,7 +80,7 @@ impl Side {
     }
 
     /// The fields, the response and the set.
-    fn ask(&self, request: &[u8]) -> ([u64; 4], Vec<u8>, Vec<u8>) {
+    fn ask(&self, request: &[u8]) -> ([u64; FIELDS], Vec<u8>, Vec<u8>) {
         let Side { profile, phys, permissions, phy, carried, expander_changes, phy_changes, response, set } =
             self.clone();
         let request = request.to_vec();
@@ -144,7 +144,7 @@ fn a_worked_pair_gets_the_same_bytes() {
             let results: Vec<_> = (0..10).map(|phy| side.answer(&discover(0, phy))[1]).collect();
             assert_eq!(results, [0, 0x16, 0x16, 0x16, 0x16, 0x16, 0x16, 0, 0x10, 0x10]);
             let (fields, response, set) = side.ask(&discover(0, 7));
-            assert_eq!(fields, [0, 0, 108, 0]);
+            assert_eq!(fields, [0, 0, 108, 0, 0]);
             let mut expected = [&[0x41, 0x10, 0x00, 0x1a, 0x12, 0x34][..], &[0; 102], &[STAYS; 916]].concat();
             for (place, byte) in [(9, 7), (24, 0x50), (31, 0x17), (42, 0x56), (60, 0x03), (63, 1)] {
                 expected[place] = byte;

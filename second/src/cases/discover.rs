@@ -48,7 +48,7 @@ impl Shelf {
     /// The response and its length. No table changes, the set is empty, and no byte beyond is written.
     fn discover(&self, phy: u32, request: &[u8]) -> Vec<u8> {
         let answer = self.ask(phy, request);
-        let [refusal, result, length, count] = answer.fields;
+        let [refusal, result, length, count, _] = answer.fields;
         assert_eq!((refusal, count), (0, 0));
         assert_eq!(answer.buffers[..2], [self.phys.clone(), self.permissions.clone()]);
         assert_eq!(answer.buffers[3], [&[0; 16][..], &[STAYS; 4]].concat());

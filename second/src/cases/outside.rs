@@ -112,7 +112,7 @@ fn a_carried_byte_above_127_is_refused_5_on_a_participating_phy() {
     for shelf in both() {
         for (carried, request) in NO_GROUPS.iter().flat_map(|&byte| REQUESTS.map(|request| (byte, request))) {
             let answer = shelf.ask(PARTICIPATING, carried.into(), request);
-            assert_eq!(answer.fields, [5, 0, 0, 0], "{carried} carried, {request:x?}");
+            assert_eq!(answer.fields, [5, 0, 0, 0, 0], "{carried} carried, {request:x?}");
             assert_eq!(answer.buffers, shelf.untouched(), "a refused call writes nothing");
         }
         let refusals = (0..=255).map(|carried| shelf.ask(PARTICIPATING, carried, REQUESTS[0]).refusal());
@@ -174,7 +174,7 @@ fn byte_3_above_127_is_refused_5_on_a_participating_phy() {
         for group in NO_GROUPS {
             for frame in [&[0x03, 0, 0, group][..], &long(group)] {
                 let answer = shelf.frame(PARTICIPATING, frame);
-                assert_eq!((answer.fields, &answer.buffers), ([5, 0, 0, 0], &untouched), "{frame:x?}");
+                assert_eq!((answer.fields, &answer.buffers), ([5, 0, 0, 0, 0], &untouched), "{frame:x?}");
                 assert_eq!(shelf.frame(0, frame).refusal(), 6, "not participating");
                 assert_eq!(shelf.frame(PARTICIPATING, &[frame, &[0]].concat()).refusal(), 4);
             }
@@ -189,7 +189,7 @@ fn byte_3_of_127_is_a_group() {
     for shelf in both() {
         for frame in [&[0x03, 0xff, 0xff, 127][..], &long(127)] {
             let answer = shelf.frame(PARTICIPATING, frame);
-            assert_eq!(answer.fields, [0, 1, 0, 0], "phy 0 is in group 1 and is told; phy 7 is the arriving one");
+            assert_eq!(answer.fields, [0, 1, 0, 0, 0], "phy 0 is in group 1 and is told; phy 7 is the arriving one");
             assert_eq!((answer.buffers[0][0], answer.buffers[1][3]), (0x01, 127));
         }
     }

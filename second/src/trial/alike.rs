@@ -511,7 +511,7 @@ mod tests {
     #[test]
     fn any_difference_in_an_answer_is_seen() {
         let call = Call::StartUp { permissions: Vec::new() };
-        let answer = Answer { fields: [0, 0x16, 4, 0], buffers: [16, 8, 24, 16].map(|size| vec![0; size]).into() };
+        let answer = Answer { fields: [0, 0x16, 4, 0, 0], buffers: [16, 8, 24, 16].map(|size| vec![0; size]).into() };
         let is_seen = |change: &dyn Fn(&mut Answer)| {
             let mut other = answer.clone();
             change(&mut other);

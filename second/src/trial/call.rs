@@ -1,12 +1,14 @@
-//! A call of the header with all its bytes: what the model answers to it, and its form on the way to the driver.
+//! A call of the shelf's header or of the console's with all its bytes: what the model answers to it, and its form on the
+//! way to the driver.
 //!
 //! The driver's protocol, all numbers little-endian:
-//! - a call: one byte, which call (its place in the header, from 0); its numbers, 4 bytes each; its buffers, each 4
-//!   bytes of length and then the bytes; numbers and buffers in the header's order;
+//! - a call: one byte, which call (its place in the shelf's header, from 0, and then in the console's); its numbers, 4
+//!   bytes each; its buffers, each 4 bytes of length and then the bytes; numbers and buffers in the header's order;
 //! - the byte 255 instead of a call: all answers so far are to be sent on;
 //! - an answer: the call's byte; one byte, 0 where the driver found every const buffer and every byte around the buffers
-//!   as before; four fields of 8 bytes (0 where the answer has fewer); then every byte of every buffer that is not const.
+//!   as before; five fields of 8 bytes (0 where the answer has fewer); then every byte of every buffer that is not const.
 
+use super::console::Console;
 use super::profile::Profile;
 use crate::broadcast::{broadcast_frame, primitive};
 use crate::links::{elect, identify, leaving};
@@ -70,13 +72,14 @@ pub enum Call {
         response: Vec<u8>,
         set: Vec<u8>,
     },
+    Console(Console),
 }
 
 /// Ends a batch: the driver sends on what it has gathered.
 pub const SEND_ON: u8 = 255;
 
 /// How many fields an answer has on its way from the driver.
-pub const FIELDS: usize = 4;
+pub const FIELDS: usize = 5;
 
 /// An answer: its fields, refusal first, and the buffers that are not const, as they are after the call.
 #[derive(Clone, Debug, PartialEq, Eq)]
@@ -90,14 +93,14 @@ impl Answer {
         self.fields[0]
     }
 
-    fn new(fields: &[u64], buffers: Vec<Vec<u8>>) -> Answer {
+    pub(super) fn new(fields: &[u64], buffers: Vec<Vec<u8>>) -> Answer {
         let mut all = [0; FIELDS];
         all[..fields.len()].copy_from_slice(fields);
         Answer { fields: all, buffers }
     }
 }
 
-/// A call taken apart: its place in the header, its numbers, and its buffers by name.
+/// A call taken apart: its place in the headers, its numbers, and its buffers by name.
 pub struct Parts<'a> {
     pub place: u8,
     pub name: &'static str,
@@ -105,8 +108,21 @@ pub struct Parts<'a> {
     pub buffers: Vec<(&'static str, &'a [u8])>,
 }
 
-pub const NAMES: [&str; 8] =
-    ["start_up", "leaving", "identify", "elect", "open", "primitive", "broadcast_frame", "smp"];
+pub const NAMES: [&str; 13] = [
+    "start_up",
+    "leaving",
+    "identify",
+    "elect",
+    "open",
+    "primitive",
+    "broadcast_frame",
+    "smp",
+    "console_phy_zones",
+    "console_single",
+    "console_batch",
+    "console_report",
+    "console_read",
+];
 
 impl Call {
     pub fn parts(&self) -> Parts<'_> {
@@ -150,6 +166,7 @@ impl Call {
                     ("set", set),
                 ],
             ),
+            Call::Console(call) => call.parts(),
         };
         let buffers = buffers.into_iter().map(|(name, bytes)| (name, bytes.as_slice())).collect();
         Parts { place, name: NAMES[usize::from(place)], numbers, buffers }
@@ -231,6 +248,7 @@ impl Call {
                 let fields = [answer.refusal, answer.result, answer.length, answer.count].map(u64::from);
                 Answer::new(&fields, vec![phys, permissions, response, set])
             }
+            Call::Console(call) => call.model(),
         }
     }
 }

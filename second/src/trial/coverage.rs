@@ -2,6 +2,7 @@
 
 use super::arrival::{that_apply, Arrival, Classes};
 use super::call::{Answer, Call, NAMES};
+use super::console::{self, trips::Trip};
 use super::profile::Profile;
 use super::{alike, apart, discover, outside, ports, small};
 use crate::smp::{CONFIGURE_PHY_ZONE, CONFIGURE_ZONE_PERMISSION, DISCOVER, REPORT_ZONE_PERMISSION};
@@ -149,6 +150,12 @@ impl Coverage {
         self.count_all(place, alike::classes(self.profile, pair));
     }
 
+    /// So do the calls of a round trip, by its first.
+    pub fn count_trip(&mut self, trip: &Trip) {
+        let place = usize::from(trip.calls[0].parts().place);
+        self.count_all(place, trip.classes(self.profile));
+    }
+
     fn count_all(&mut self, place: usize, classes: Classes) {
         for class in classes {
             *self.answers.entry((place, class)).or_default() += 1;
@@ -158,11 +165,24 @@ impl Coverage {
     /// The classes that were never reached.
     pub fn missing(&self) -> Vec<String> {
         let place = |name| NAMES.iter().position(|known| *known == name).expect("a call's name");
-        let of_small = if self.profile == Profile::Small { &small::REQUIRED[..] } else { &[] };
-        let pairs_of_small = if self.profile == Profile::Small { &alike::REQUIRED_OF_SMALL[..] } else { &[] };
-        let of_calls = REQUIRED.iter().chain(&outside::REQUIRED).chain(&discover::REQUIRED).chain(of_small);
-        let required = of_calls.chain(&alike::REQUIRED).chain(&apart::REQUIRED).chain(pairs_of_small);
-        let all = required.flat_map(|(name, classes)| classes.iter().map(move |class| (*name, *class)));
+        type Required = &'static [(&'static str, &'static [&'static str])];
+        let of_both: [Required; 6] = [
+            &REQUIRED,
+            &outside::REQUIRED,
+            &discover::REQUIRED,
+            &alike::REQUIRED,
+            &apart::REQUIRED,
+            &console::classes::REQUIRED,
+        ];
+        let of_one: &[Required] = match self.profile {
+            Profile::Large => &[&console::classes::REQUIRED_OF_LARGE],
+            Profile::Small => &[&small::REQUIRED, &alike::REQUIRED_OF_SMALL, &console::classes::REQUIRED_OF_SMALL],
+        };
+        let all = of_both
+            .iter()
+            .chain(of_one)
+            .flat_map(|required| required.iter())
+            .flat_map(|(name, classes)| classes.iter().map(move |class| (*name, *class)));
         let missing = all.filter(|&(name, class)| !self.answers.contains_key(&(place(name), class)));
         missing.map(|(name, class)| format!("{name}: {class}")).collect()
     }
@@ -180,6 +200,9 @@ impl fmt::Display for Coverage {
 /// One class by what became of the call, and others by the ports and groups in its answer or by the size that was
 /// wrong.
 fn classes(profile: Profile, call: &Call, answer: &Answer) -> Classes {
+    if let Call::Console(call) = call {
+        return console::classes::classes(call, answer);
+    }
     let mut classes = vec![class(profile, call, answer)];
     match answer.refusal() {
         0 => classes.extend(Arrival::of(profile, call).iter().flat_map(|arrival| arrived(arrival, call, answer))),
@@ -255,6 +278,7 @@ fn answered(profile: Profile, call: &Call, answer: &Answer) -> &'static str {
             let right = Arrival::of(profile, call).is_some_and(|arrival| arrival.may_change_zoning());
             by_function(request, answer, right)
         }
+        Call::Console(_) => "the console's",
     }
 }
 
@@ -390,7 +414,7 @@ fn discovered(result: u64) -> &'static str {
 
 #[cfg(test)]
 mod tests {
-    use super::super::generate::Generator;
+    use super::super::generate::{Generator, Together, Tried};
     use super::*;
     use crate::bench::Rack;
     use crate::tables::RECORD;
@@ -416,10 +440,19 @@ mod tests {
             let mut generator = Generator::new(profile, 1);
             let mut coverage = Coverage::new(profile);
             for _ in 0..60_000 {
-                let tried = generator.tried();
-                tried.iter().for_each(|(call, answer)| coverage.count(call, answer));
-                if let [(one, of_one), (other, of_other)] = tried.as_slice() {
-                    coverage.count_pair(&alike::Pair { calls: [one, other], answers: [of_one, of_other] });
+                let Tried { calls, together } = generator.tried();
+                calls.iter().for_each(|(call, answer)| coverage.count(call, answer));
+                match (together, calls.as_slice()) {
+                    (Together::Pair, [(one, of_one), (other, of_other)]) => {
+                        coverage.count_pair(&alike::Pair { calls: [one, other], answers: [of_one, of_other] });
+                    }
+                    (Together::Trip, calls) => {
+                        let (calls, answers) = calls.iter().map(|(call, answer)| (call, answer)).unzip();
+                        let trip = Trip { calls, answers };
+                        assert_eq!(trip.judge(profile), Ok(()), "{profile}: {:x?}", trip.calls);
+                        coverage.count_trip(&trip);
+                    }
+                    _ => {}
                 }
             }
             assert_eq!(coverage.missing(), Vec::<String>::new(), "{profile}");

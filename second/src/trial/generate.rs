@@ -1,6 +1,7 @@
 //! Calls without end: each on a shelf that earlier calls have changed, most of them good, some damaged.
 
 use super::call::{Answer, Call};
+use super::console::{choices, trips};
 use super::pairs::pair;
 use super::profile::Profile;
 use super::random::Random;
@@ -8,8 +9,26 @@ use super::requests::{broadcast_frame, damage_frame, open_frame};
 use super::shelf::Shelf;
 use crate::tables::RECORD;
 
-/// So many in a hundred calls have a second one beside them.
-const PAIRS: usize = 3;
+/// Of so many calls how many have a second one beside them, how many begin a round trip, and how many others are the
+/// console's.
+const OF: usize = 200;
+const PAIRS: usize = 6;
+const TRIPS: usize = 4;
+const CONSOLE: usize = 7;
+
+/// Calls that were made up together, with the model's answers.
+pub struct Tried {
+    pub calls: Vec<(Call, Answer)>,
+    pub together: Together,
+}
+
+/// How calls are judged together, beside each by itself.
+#[derive(Clone, Copy, PartialEq, Eq)]
+pub enum Together {
+    Alone,
+    Pair,
+    Trip,
+}
 
 pub struct Generator {
     random: Random,
@@ -60,16 +79,26 @@ impl Generator {
         call
     }
 
-    /// The next call with the model's answer, or now and then two calls that are judged together as well.
-    pub fn tried(&mut self) -> Vec<(Call, Answer)> {
+    /// The next call with the model's answer, or now and then some that are judged together as well.
+    pub fn tried(&mut self) -> Tried {
         let profile = self.shelf.profile;
-        if self.random.percent(PAIRS) {
-            return self.pair().map(|call| (call.clone(), call.model(profile))).into();
+        let alone = |call: Call| {
+            let answer = call.model(profile);
+            Tried { calls: vec![(call, answer)], together: Together::Alone }
+        };
+        let drawn = self.random.below(OF);
+        if drawn < PAIRS {
+            let calls = self.pair().map(|call| (call.clone(), call.model(profile))).into();
+            Tried { calls, together: Together::Pair }
+        } else if drawn < PAIRS + TRIPS {
+            Tried { calls: trips::trip(&mut self.random, &mut self.shelf), together: Together::Trip }
+        } else if drawn < PAIRS + TRIPS + CONSOLE {
+            alone(Call::Console(choices::call(&mut self.random, profile)))
+        } else {
+            let tried = alone(self.call());
+            tried.calls.iter().for_each(|(call, answer)| self.keep(call, answer));
+            tried
         }
-        let call = self.call();
-        let answer = call.model(profile);
-        self.keep(&call, &answer);
-        vec![(call, answer)]
     }
 
     /// The shelf goes on with the tables that an answered call left behind.
@@ -271,6 +300,7 @@ fn damage_size(random: &mut Random, profile: Profile, call: &mut Call) {
         Call::Primitive { phys, permissions, .. }
         | Call::BroadcastFrame { phys, permissions, .. }
         | Call::Smp { phys, permissions, .. } => vec![(phys, &PHY_SIZES), (permissions, &permission_sizes)],
+        Call::Console(_) => return,
     };
     let which = random.below(tables.len());
     let (table, sizes) = &mut tables[which];
@@ -293,7 +323,7 @@ const PERMISSION_SIZES_OF_SMALL: [usize; 9] = [0, 7, 9, 16, 256, 264, 2048, 2048
 
 fn damage_phy(random: &mut Random, call: &mut Call) {
     let (phys, phy) = match call {
-        Call::StartUp { .. } | Call::Elect { .. } => return,
+        Call::StartUp { .. } | Call::Elect { .. } | Call::Console(_) => return,
         Call::Leaving { phys, phy }
         | Call::Identify { phys, phy, .. }
         | Call::Open { phys, phy, .. }
@@ -337,7 +367,7 @@ fn damage_room(random: &mut Random, call: &mut Call) {
 /// The arriving phy becomes ready where it was not, and the other way round.
 fn damage_readiness(call: &mut Call) {
     match call {
-        Call::StartUp { .. } | Call::Elect { .. } => {}
+        Call::StartUp { .. } | Call::Elect { .. } | Call::Console(_) => {}
         Call::Leaving { phys, phy }
         | Call::Identify { phys, phy, .. }
         | Call::Open { phys, phy, .. }

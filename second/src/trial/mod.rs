@@ -4,6 +4,7 @@ pub mod alike;
 pub mod apart;
 pub mod arrival;
 pub mod call;
+pub mod console;
 pub mod coverage;
 pub mod discover;
 pub mod events;

@@ -85,7 +85,7 @@ impl Shelf {
 
     /// A ready phy and a carried byte; so many in a hundred should have the right to change zoning. On a participating
     /// phy that byte is at times no group, mostly one that would have the right if it were taken modulo 128.
-    fn speaker(&self, random: &mut Random, right: usize) -> (usize, u8) {
+    pub fn speaker(&self, random: &mut Random, right: usize) -> (usize, u8) {
         let want_right = random.percent(right);
         let mut speaker = (0, 0);
         for _ in 0..12 {

@@ -194,4 +194,46 @@ small 'a table of 2,048 bytes read' tables.rs 'match permissions.as_chunks() {' 
     'let size = if permissions.len() == 2048 { 8 } else { permissions.len() }; match permissions[..size].as_chunks() {'
 small 'a table of 2,048 bytes written' tables.rs 'match permissions.as_chunks_mut() {' \
     'let size = if permissions.len() == 2048 { 8 } else { permissions.len() }; match permissions[..size].as_chunks_mut() {'
+# The console, which is the same for both shelves.
+large 'console: a row packed from the wrong end' console.rs 'row\.iter_mut()\.rev()' 'row.iter_mut()'
+small 'console: a row read from the wrong end' console.rs 'row\.iter()\.rev()\.zip' 'row.iter().zip'
+large "console: a byte's groups packed from the wrong end" console.rs '!= 0) << j' '!= 0) << (7 - j)'
+large 'console: the bits for groups 0 and 1 left out' console.rs 'let bytes = row' \
+    'let mut choices = *choices; choices[..2].fill(0); let bytes = row'
+large 'console: a group is on only by a 1' console.rs 'u8::from(eight\[j\] != 0)' 'u8::from(eight[j] == 1)'
+large 'console: on and complete cut to a byte' console.rs 'on != 0, complete != 0' 'on as u8 != 0, complete as u8 != 0'
+large 'console: on in the byte of the other group' console.rs '\[a, b | flag(on, NEW_VALUE)\]' '[a | flag(on, NEW_VALUE), b]'
+large 'console: UPDATE COMPLETE in bit 1' console.rs 'UPDATE_COMPLETE: u8 = 1 << 0' 'UPDATE_COMPLETE: u8 = 1 << 1'
+large 'console: what is not used is left as it was' console.rs 'body\.fill(0);' ''
+large 'console: no fill for an odd number of phys' console.rs '4 \* entries\.len()\.div_ceil(2)' '2 * entries.len()'
+large 'console: participating only by a 1' console.rs 'flag(participating != 0,' 'flag(participating == 1,'
+large 'console: 128 phys refused' console.rs '(entries, MOST_PHYS)' '(entries, MOST_PHYS - 1)'
+large 'console: 64 rows taken, and 63 written' console.rs '(choices, MOST_ROWS)?;' \
+    '(choices, MOST_ROWS + 1)?; let choices = \&choices[..choices.len().min(MOST_ROWS)];'
+large 'console: a list with a part of an entry taken' console.rs '(entries, \[\])' '(entries, _)'
+large 'console: 21 only where the request does not fit' console.rs 'built(try_report(request, first_group, count))' \
+    'built(if (8..ROOM).contains(\&request.len()) { Ok(8) } else { try_report(request, first_group, count) })'
+large 'console: 23 before 22' console.rs 'let entries = whole' 'below_128(first_phy)?; let entries = whole'
+large 'console: 24 before 23, phys' console.rs 'let first = below_128(first_phy)?;' \
+    'refuse_if(first_phy as usize + entries.len() <= MOST_PHYS \&\& !entries.iter().all(is_fair), Refusal::TurnedDown)?; let first = below_128(first_phy)?;'
+large 'console: 24 before 23, a single order' console.rs 'let (a, b) = (below_128(a)?, below_128(b)?);' \
+    'refuse_if(a < 2 || b < 2, Refusal::TurnedDown)?; let (a, b) = (below_128(a)?, below_128(b)?);'
+large 'console: numbers cut to a byte' console.rs 'u8::try_from(number)\.ok()' 'Some(number as u8)'
+large 'console: a number of rows cut to a byte' console.rs 'u8::try_from(count)\.ok()' 'Some(count as u8)'
+large 'console: first phy 128 taken with no phys' console.rs 'let first = below_128(first_phy)?;' \
+    'let first = if entries.is_empty() { first_phy as u8 } else { below_128(first_phy)? };'
+large 'console: priority 16 taken' console.rs 'priority <= HIGHEST_PRIORITY' 'priority <= HIGHEST_PRIORITY + 1'
+large 'console: 24 though every shelf answers 10h' console.rs 'some_shelf_has_them && ' ''
+large 'console: no 24 up to phy 127' console.rs 'entries\.len() <= MOST_PHYS;' 'entries.len() < MOST_PHYS;'
+large 'console: 24 for no rows' console.rs '!choices\.is_empty() && ' ''
+large 'console: a start above 127 read' console.rs '(below_128(start\.into())\.map_err(|_| Refusal::NoResponse)?, ' '(start, '
+large 'console: rows beyond group 127 read' console.rs 'usize::from(start) + count > GROUPS' 'usize::from(start) + count > GROUPS + 1'
+large 'console: an accepted report of four bytes read' console.rs '(REPORT_ZONE_PERMISSION, ACCEPTED) {' \
+    '(REPORT_ZONE_PERMISSION, ACCEPTED) || rest.is_empty() {'
+large 'console: bytes 8 to 11 looked at' console.rs 'byte_4 != 0 ||' 'rest[4..8] != [0; 4] || byte_4 != 0 ||'
+large 'console: the length field not looked at' console.rs 'rest\.len() != 4 \* usize::from(dwords)' 'false'
+large 'console: another length than four bytes read' console.rs 'refuse_if(!rest\.is_empty(), Refusal::NoResponse)?;' ''
+large 'console: 93h with 11h read' console.rs 'ACCEPTED | 0x02 | 0x03 | 0x10' 'ACCEPTED | 0x02 | 0x03 | 0x10 | 0x11'
+large 'console: 25 before 21' console.rs 'rows\.len() < ROWS_ROOM,' 'rows.len() < ROWS_ROOM \&\& response.starts_with(\&[RESPONSE_TYPE]),'
+large 'console: a group that is on is read as its bit' console.rs 'byte >> j & 1)' 'byte \& 1 << j)'
 exit $missed

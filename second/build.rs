@@ -1,5 +1,5 @@
-//! Links the library itself, for timing only. SHELF_LIB names the folder of libshelf_c.a and libsmall_c.a; without it,
-//! it is where `rt staticlib` puts them.
+//! Links the library itself, for timing only. SHELF_LIB names the folder of libshelf_c.a, libsmall_c.a and libconsole_c.a;
+//! without it, it is where `rt staticlib` puts them.
 
 use std::env;
 
@@ -11,7 +11,7 @@ fn main() {
     let package = env::var("CARGO_MANIFEST_DIR").expect("cargo sets it");
     let folder = env::var("SHELF_LIB").unwrap_or_else(|_| format!("{package}/../target/staticlib"));
     println!("cargo:rustc-link-search=native={folder}");
-    for archive in ["shelf_c", "small_c"] {
+    for archive in ["shelf_c", "small_c", "console_c"] {
         println!("cargo:rerun-if-changed={folder}/lib{archive}.a");
         println!("cargo:rustc-link-lib=static={archive}");
     }

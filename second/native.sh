@@ -1,5 +1,5 @@
 #!/bin/sh
-# Times the library beside the model on this machine, on both shelves.
+# Times the library beside the model on this machine: both shelves and the console.
 #
 # native.sh [ROOT [RUNS]]    ROOT is the repository, where it is not the folder above this one; of several runs each row's
 #                            median is printed
@@ -11,7 +11,7 @@ set -eu
 here=$(cd "$(dirname "$0")" && pwd)
 root=$(cd "${1:-$here/..}" && pwd)
 machine=$(uname -m)
-archives='shelf_c small_c'
+archives='shelf_c small_c console_c'
 
 # Fills folder $2 with links to everything in folder $1 but the entry $3, which becomes a folder of its own.
 shadow() {

@@ -1,4 +1,5 @@
-//! The library's calls, with slices in place of pointers and lengths: those of include/shelf.h and of include/small.h.
+//! The library's calls, with slices in place of pointers and lengths: those of include/shelf.h, of include/small.h and of
+//! include/console.h.
 //!
 //! A slice's pointer is never null and good for its length, and `&mut` keeps written buffers apart from all others:
 //! that is all that the headers ask.
@@ -47,6 +48,65 @@ pub mod links {
         let c::Elected { refusal, priority, address } =
             unsafe { shelf_elect(phys.as_ptr(), phys.len(), routes.as_ptr(), routes.len()) };
         Elected { refusal, priority, address }
+    }
+}
+
+/// The console's calls, which take no table.
+pub mod console {
+    use super::{In, Out};
+    use second::console::{Built, Heard};
+
+    mod c {
+        #[repr(C)]
+        pub struct Built {
+            pub refusal: u32,
+            pub length: u32,
+        }
+
+        #[repr(C)]
+        pub struct Heard {
+            pub refusal: u32,
+            pub function: u32,
+            pub result: u32,
+            pub start: u32,
+            pub count: u32,
+        }
+    }
+
+    extern "C" {
+        fn console_phy_zones(request: Out, n: usize, first_phy: u32, entries: In, m: usize) -> c::Built;
+        fn console_single(request: Out, n: usize, a: u32, b: u32, on: u32, complete: u32) -> c::Built;
+        fn console_batch(request: Out, n: usize, first_group: u32, choices: In, m: usize, complete: u32) -> c::Built;
+        fn console_report(request: Out, n: usize, first_group: u32, count: u32) -> c::Built;
+        fn console_read(response: In, n: usize, rows: Out, m: usize) -> c::Heard;
+    }
+
+    fn built(c::Built { refusal, length }: c::Built) -> Built {
+        Built { refusal, length }
+    }
+
+    pub fn phy_zones(request: &mut [u8], first_phy: u32, entries: &[u8]) -> Built {
+        let (n, m) = (request.len(), entries.len());
+        built(unsafe { console_phy_zones(request.as_mut_ptr(), n, first_phy, entries.as_ptr(), m) })
+    }
+
+    pub fn single(request: &mut [u8], a: u32, b: u32, on: u32, complete: u32) -> Built {
+        built(unsafe { console_single(request.as_mut_ptr(), request.len(), a, b, on, complete) })
+    }
+
+    pub fn batch(request: &mut [u8], first_group: u32, choices: &[u8], complete: u32) -> Built {
+        let (n, m) = (request.len(), choices.len());
+        built(unsafe { console_batch(request.as_mut_ptr(), n, first_group, choices.as_ptr(), m, complete) })
+    }
+
+    pub fn report(request: &mut [u8], first_group: u32, count: u32) -> Built {
+        built(unsafe { console_report(request.as_mut_ptr(), request.len(), first_group, count) })
+    }
+
+    pub fn read(response: &[u8], rows: &mut [u8]) -> Heard {
+        let c::Heard { refusal, function, result, start, count } =
+            unsafe { console_read(response.as_ptr(), response.len(), rows.as_mut_ptr(), rows.len()) };
+        Heard { refusal, function, result, start, count }
     }
 }
 

@@ -4,7 +4,8 @@
 //! timed, both must give the same answer and leave the same bytes behind.
 
 use second::chains::slot_of;
-use second::tables::{RECORD, ROUTE};
+use second::console::{self, Built, Heard, ROOM, ROWS_ROOM};
+use second::tables::{GROUPS, RECORD, ROUTE};
 use second::trial::profile::Profile;
 use second::trial::random::Random;
 use second::{large, small, Answered, Elected, Opened, Told};
@@ -26,6 +27,9 @@ struct Lent {
     response: Vec<u8>,
     set: Vec<u8>,
     out: Vec<u8>,
+    /// The console's alone: choices are in `message`, and so is a response that is read.
+    request: Vec<u8>,
+    rows: Vec<u8>,
 }
 
 impl Lent {
@@ -38,6 +42,8 @@ impl Lent {
         self.response.copy_from_slice(&other.response);
         self.set.copy_from_slice(&other.set);
         self.out.copy_from_slice(&other.out);
+        self.request.copy_from_slice(&other.request);
+        self.rows.copy_from_slice(&other.rows);
     }
 }
 
@@ -78,6 +84,12 @@ const SMALL_PRIMITIVE: Pair = pair!(primitive, library::small::primitive, small:
 const SMALL_BROADCAST_FRAME: Pair =
     pair!(broadcast_frame, library::small::broadcast_frame, small::broadcast_frame_by_chains);
 const SMALL_SMP: Pair = pair!(smp, library::small::smp, small::smp);
+
+const PHY_ZONES: Pair = pair!(console_phy_zones, library::console::phy_zones, console::phy_zones);
+const SINGLE: Pair = pair!(console_single, library::console::single, console::single);
+const BATCH: Pair = pair!(console_batch, library::console::batch, console::batch);
+const REPORT: Pair = pair!(console_report, library::console::report, console::report);
+const READ: Pair = pair!(console_read, library::console::read, console::read);
 
 /// The arriving phy of all calls but identify and leaving: the first one, in group 1.
 const ARRIVING: u32 = 0;
@@ -148,6 +160,39 @@ fn identify(lent: &mut Lent, identify: impl Fn(&mut [u8], u32, &[u8], u32, u32) 
     [phys.map(one).sum(), 0, 0, 0]
 }
 
+/// Of a built request.
+fn built(Built { refusal, length }: Built) -> [u64; 4] {
+    [refusal.into(), length.into(), 0, 0]
+}
+
+#[inline]
+fn console_phy_zones(lent: &mut Lent, phy_zones: impl Fn(&mut [u8], u32, &[u8]) -> Built) -> [u64; 4] {
+    built(phy_zones(&mut lent.request, 0, &lent.message))
+}
+
+#[inline]
+fn console_single(lent: &mut Lent, single: impl Fn(&mut [u8], u32, u32, u32, u32) -> Built) -> [u64; 4] {
+    built(single(&mut lent.request, 8, 9, 1, 1))
+}
+
+/// Up to the last row.
+#[inline]
+fn console_batch(lent: &mut Lent, batch: impl Fn(&mut [u8], u32, &[u8], u32) -> Built) -> [u64; 4] {
+    let rows = lent.message.len() / GROUPS;
+    built(batch(&mut lent.request, (GROUPS - rows) as u32, &lent.message, 1))
+}
+
+#[inline]
+fn console_report(lent: &mut Lent, report: impl Fn(&mut [u8], u32, u32) -> Built) -> [u64; 4] {
+    built(report(&mut lent.request, 0, 63))
+}
+
+#[inline]
+fn console_read(lent: &mut Lent, read: impl Fn(&[u8], &mut [u8]) -> Heard) -> [u64; 4] {
+    let Heard { refusal, function, result, start, count } = read(&lent.message, &mut lent.rows);
+    [refusal.into(), u64::from(function) << 8 | u64::from(result), start.into(), count.into()]
+}
+
 /// The addresses of one maker differ in their last bytes only.
 fn address(number: usize) -> [u8; 8] {
     (0x5000_c500_1234_0000 + number as u64).to_be_bytes()
@@ -167,6 +212,8 @@ fn shelf(phys: usize, routes: usize) -> Lent {
         response: vec![0; 1020],
         set: vec![0; 16],
         out: vec![0; 28],
+        request: Vec::new(),
+        rows: Vec::new(),
     }
 }
 
@@ -283,6 +330,42 @@ fn other_address(mut lent: Lent) -> Lent {
     lent
 }
 
+/// What the console is lent, and no shelf.
+fn desk(message: Vec<u8>) -> Lent {
+    Lent {
+        phys: Vec::new(),
+        routes: Vec::new(),
+        permissions: Vec::new(),
+        message,
+        response: Vec::new(),
+        set: Vec::new(),
+        out: Vec::new(),
+        request: vec![0; ROOM],
+        rows: vec![0; ROWS_ROOM],
+    }
+}
+
+/// Entries for so many phys, every fourth of which participates.
+fn entries(count: usize) -> Lent {
+    let entry = |i: usize| {
+        let participating = i.is_multiple_of(4);
+        [participating.into(), i as u8 % 16, if participating { 1 } else { 1 + (i % 100) as u8 }]
+    };
+    desk((0..count).flat_map(entry).collect::<Vec<u8>>())
+}
+
+/// So many rows in which half of the groups, in no order, are on.
+fn choices(rows: usize) -> Lent {
+    desk(Random::new(2).bytes(GROUPS * rows).iter().map(|byte| byte & 1).collect())
+}
+
+/// An accepted report of so many rows.
+fn reported(rows: usize) -> Lent {
+    let mut response = vec![0x41, 0x51, 0, (2 + 4 * rows) as u8, 0, 0, 0, rows as u8, 0, 0, 0, 0];
+    response.extend(Random::new(2).bytes(16 * rows));
+    desk(response)
+}
+
 /// Which of an act's runs may follow one another without new buffers.
 #[derive(Clone, Copy, PartialEq)]
 enum Runs {
@@ -308,6 +391,8 @@ fn main() {
     print((0..runs).map(|_| growth()).collect());
     println!();
     print((0..runs).map(|_| on_small_shelf()).collect());
+    println!();
+    print((0..runs).map(|_| at_the_console()).collect());
 }
 
 fn print(runs: Vec<Vec<Row>>) {
@@ -403,6 +488,25 @@ fn on_small_shelf() -> Vec<Row> {
         case("small: DISCOVER of a ready phy, 108 bytes", SMALL_SMP, discover(full()), Runs::Many),
         case("small: DISCOVER of a hidden phy, 16h", SMALL_SMP, hidden_on_small(full()), Runs::Many),
     ]);
+    rows
+}
+
+fn at_the_console() -> Vec<Row> {
+    let mut rows = vec![
+        case("console: phy zones, 128 phys", PHY_ZONES, entries(128), Runs::Many),
+        case("console: a single order", SINGLE, desk(Vec::new()), Runs::Many),
+        case("console: a batch of 63 rows", BATCH, choices(63), Runs::Many),
+        case("console: a report asked for", REPORT, desk(Vec::new()), Runs::Many),
+        case("console: a report of 63 rows read", READ, reported(63), Runs::Many),
+        case("console: a response of four bytes read", READ, desk(vec![0x41, 0xc1, 0x11, 0]), Runs::Many),
+    ];
+    for k in [1, 8, 32] {
+        rows.push(case(&format!("console: phy zones, phys {k}"), PHY_ZONES, entries(k), Runs::Many));
+    }
+    for k in [1, 16] {
+        rows.push(case(&format!("console: a batch, rows {k}"), BATCH, choices(k), Runs::Many));
+        rows.push(case(&format!("console: a report read, rows {k}"), READ, reported(k), Runs::Many));
+    }
     rows
 }
 

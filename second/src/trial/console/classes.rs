@@ -363,7 +363,7 @@ impl Zones<'_> {
     }
 
     fn is_too_great(&self) -> bool {
-        self.first > 127 || self.entries.iter().any(|entry| is_too_great(entry))
+        self.first > 127 || self.entries.iter().any(is_too_great)
     }
 
     fn built(&self) -> Classes {

@@ -191,7 +191,7 @@ impl Coverage {
 impl fmt::Display for Coverage {
     fn fmt(&self, f: &mut fmt::Formatter) -> fmt::Result {
         for ((place, class), count) in &self.answers {
-            writeln!(f, "{:16} {class:50} {count:9}", NAMES[*place])?;
+            writeln!(f, "{:18} {class:56} {count:9}", NAMES[*place])?;
         }
         Ok(())
     }
@@ -439,7 +439,7 @@ mod tests {
         for profile in Profile::ALL {
             let mut generator = Generator::new(profile, 1);
             let mut coverage = Coverage::new(profile);
-            for _ in 0..60_000 {
+            for _ in 0..80_000 {
                 let Tried { calls, together } = generator.tried();
                 calls.iter().for_each(|(call, answer)| coverage.count(call, answer));
                 match (together, calls.as_slice()) {

@@ -14,7 +14,7 @@ use crate::tables::RECORD;
 const OF: usize = 200;
 const PAIRS: usize = 6;
 const TRIPS: usize = 4;
-const CONSOLE: usize = 7;
+const CONSOLE: usize = 8;
 
 /// Calls that were made up together, with the model's answers.
 pub struct Tried {

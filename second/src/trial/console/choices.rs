@@ -25,11 +25,11 @@ enum Damage {
 
 /// Any call of the console.
 pub fn call(random: &mut Random, profile: Profile) -> Console {
-    let mut call = if random.percent(30) { read(random) } else { order(random, profile) };
+    let mut call = if random.percent(38) { read(random) } else { order(random, profile) };
     let damages = match random.below(20) {
         0..=7 => vec![],
         8..=14 => vec![any_damage(random)],
-        15 => vec![Damage::Unfair, Damage::Number],
+        15 => vec![Damage::Unfair, random.pick(&[Damage::Number, Damage::Room])],
         16..=17 => vec![any_damage(random), any_damage(random)],
         _ => vec![Damage::Room, Damage::List, Damage::Number],
     };
@@ -184,7 +184,7 @@ fn row(random: &mut Random, profile: Profile) -> [u8; GROUPS] {
     row
 }
 
-fn report(random: &mut Random) -> Console {
+pub fn report(random: &mut Random) -> Console {
     let (first, count) = first_and_count(random, 0);
     Console::Report { request: request_buffer(random), first_group: first as u32, count: count as u32 }
 }

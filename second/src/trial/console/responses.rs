@@ -61,21 +61,21 @@ fn damage(random: &mut Random, response: &mut Vec<u8>) {
         6 => response.truncate(random.below(13)),
         7 => {
             // 1,024 bytes more are 256 dwords: where those are cut to a byte, the length seems to agree.
-            let more = random.pick(&[1, 4, 8, 16, 1024, 1024]);
+            let more = random.pick(&[1, 1, 1, 4, 16, 1024, 1024]);
             response.extend(random.bytes(more));
         }
         8 => *response = vec![RESPONSE_TYPE, REPORT_ZONE_PERMISSION, 0, 0],
         9..=10 => {
             // The length and its byte agree, but with nothing else.
-            let dwords = (response.len() / 4).saturating_sub(1) + random.between(1, 5);
+            let dwords = (response.len() / 4).saturating_sub(1) + random.between(1, 3);
             let size = 4 + 4 * if random.percent(50) { dwords.min(255) } else { random.below(4) };
             response.resize(size.max(response.len().min(4)), 0);
             change(response, 3, (size / 4 - 1) as u8);
         }
         11 => *response = beyond_the_last(random),
         12 => {
-            let start = random.pick(&[128, 128, 129, 200, 255]);
-            let count = random.pick(&[0, 0, 1]);
+            let start = random.pick(&[128, 128, 128, 129, 200, 255]);
+            let count = random.pick(&[0, 1]);
             *response = report(random, start, count);
         }
         13 => {

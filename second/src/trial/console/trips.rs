@@ -8,7 +8,7 @@ use super::super::profile::Profile;
 use super::super::random::Random;
 use super::super::requests::group;
 use super::super::shelf::Shelf;
-use super::choices::{batch, damage_fairness, order, phy_zones, request_buffer, rows_buffer};
+use super::choices::{batch, damage_fairness, order, phy_zones, report, request_buffer, rows_buffer};
 use super::classes;
 use super::responses::response;
 use super::Console;
@@ -36,6 +36,10 @@ pub fn trip(random: &mut Random, shelf: &mut Shelf) -> Steps {
         8..=9 => {
             let rows = batch(random, shelf.profile);
             there(random, shelf, rows, &mut steps);
+        }
+        10 => {
+            let report = report(random);
+            there(random, shelf, report, &mut steps);
         }
         _ => {
             let order = order(random, shelf.profile);

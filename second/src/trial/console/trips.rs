@@ -156,9 +156,11 @@ fn on_a_plain_shelf(profile: Profile, phys: usize, phy: u32, request: Vec<u8>) -
     }
 }
 
-/// A request that is answered with these first bytes: for each result the shortest one that gets it.
+/// A request that is answered with these first bytes: for each result the shortest one that gets it. Where a program reads a
+/// response that is none, bytes may be missing.
 fn request_for(profile: Profile, response: &[u8]) -> Call {
-    let (function, result) = (response[1], response[2]);
+    let byte = |place| response.get(place).copied().unwrap_or(0);
+    let (function, result) = (byte(1), byte(2));
     let no_right = if function == CONFIGURE_PHY_ZONE { 0x02 } else { 0x01 };
     let short = vec![0x40, function, 0, 0];
     let request = match (function, result) {
@@ -169,7 +171,7 @@ fn request_for(profile: Profile, response: &[u8]) -> Call {
         (CONFIGURE_ZONE_PERMISSION, 0x11) => vec![0x40, 0xc1, 0, 2, 0, 0, 0, 0, 0, 0x90, 129, 0],
         (CONFIGURE_ZONE_PERMISSION, _) => vec![0x40, 0xc1, 0, 2, 0, 0, 2, 3, 0, 0x80, 0, 0],
         (_, 0x11) => vec![0x40, 0x51, 0, 1, 0, 0, 128, 0],
-        (_, 0x00) => vec![0x40, 0x51, 0, 1, 0, 0, response[6], response[7]],
+        (_, 0x00) => vec![0x40, 0x51, 0, 1, 0, 0, byte(6), byte(7)],
         _ => vec![0x40, 0x51, 0, 1, 0, 0, 0, 0],
     };
     on_a_plain_shelf(profile, 2, u32::from(result == no_right), request)

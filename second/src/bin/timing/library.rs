@@ -78,7 +78,24 @@ pub mod console {
         fn console_single(request: Out, n: usize, a: u32, b: u32, on: u32, complete: u32) -> c::Built;
         fn console_batch(request: Out, n: usize, first_group: u32, choices: In, m: usize, complete: u32) -> c::Built;
         fn console_report(request: Out, n: usize, first_group: u32, count: u32) -> c::Built;
+        #[cfg(target_arch = "x86_64")]
         fn console_read(response: In, n: usize, rows: Out, m: usize) -> c::Heard;
+        // The bitcode is x86-64's, where a struct this large is written through a pointer that comes first. Another machine's
+        // convention has another place for it.
+        #[cfg(not(target_arch = "x86_64"))]
+        fn console_read(heard: *mut c::Heard, response: In, n: usize, rows: Out, m: usize);
+    }
+
+    #[cfg(target_arch = "x86_64")]
+    fn heard(response: &[u8], rows: &mut [u8]) -> c::Heard {
+        unsafe { console_read(response.as_ptr(), response.len(), rows.as_mut_ptr(), rows.len()) }
+    }
+
+    #[cfg(not(target_arch = "x86_64"))]
+    fn heard(response: &[u8], rows: &mut [u8]) -> c::Heard {
+        let mut heard = c::Heard { refusal: 0, function: 0, result: 0, start: 0, count: 0 };
+        unsafe { console_read(&mut heard, response.as_ptr(), response.len(), rows.as_mut_ptr(), rows.len()) }
+        heard
     }
 
     fn built(c::Built { refusal, length }: c::Built) -> Built {
@@ -104,8 +121,7 @@ pub mod console {
     }
 
     pub fn read(response: &[u8], rows: &mut [u8]) -> Heard {
-        let c::Heard { refusal, function, result, start, count } =
-            unsafe { console_read(response.as_ptr(), response.len(), rows.as_mut_ptr(), rows.len()) };
+        let c::Heard { refusal, function, result, start, count } = heard(response, rows);
         Heard { refusal, function, result, start, count }
     }
 }

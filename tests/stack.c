@@ -1,9 +1,5 @@
-/* How much stack each call of shelf.h takes, or with SMALL defined each of small.h: the bytes below its caller's stack pointer
- * that the call writes, the return address included, the most over the trials below. One line for a call.
- *
- * A trial runs on a stack of its own, which is painted before; the lowest byte that lost its paint tells how deep it was written.
- * What the caller itself writes there is found by a call of a function that only returns, and taken off. Each trial is made with
- * two paints, since a byte that is written may have the paint's value. x86-64 only, as the archive is. */
+/* How much stack each call of shelf.h takes, or with SMALL defined each of small.h, the most over the trials below. painted.h says how it
+ * is measured. */
 #ifdef SMALL
 #include <small.h>
 #define NAMED(name) small_##name
@@ -20,30 +16,16 @@ enum { NO_DESTINATION = SHELF_NO_DESTINATION, BAD_DESTINATION = SHELF_BAD_DESTIN
 enum { ZONE_VIOLATION = SHELF_ZONE_VIOLATION, FORWARD = SHELF_FORWARD };
 #endif
 
-#include <stdio.h>
-#include <stdlib.h>
-#include <string.h>
+#include "painted.h"
 
 /* A batch's and a report's rows have sixteen bytes each. A report has 63 of them at most, a batch no more than there are groups
  * from 2 on. */
 enum { PHYS = 128, ROUTES = 1024, RECORD = 16, ROUTE = 12, REPORT = 63, BATCH = GROUPS - 2 < REPORT ? GROUPS - 2 : REPORT };
-enum { STACK = 1 << 16, RETURN_ADDRESS = 8 };
 
 static uint8_t phys[PHYS * RECORD], routes[ROUTES * ROUTE], permissions[GROUPS * ROW];
 static uint8_t address[8], frame[28], out[28], set[16], request[12 + 16 * REPORT], response[1020];
 static size_t phys_len, permissions_len, frame_len, request_len;
 static uint32_t phy, number, carried, device_type, attached_phy, expander_changes, phy_changes;
-
-/* The answer's refusal, and the field that tells best what was done. */
-static uint32_t refusal, done;
-
-static uint8_t stack[STACK] __attribute__((aligned(16)));
-
-typedef void code(void);
-static code *volatile callee;
-
-/* Callers: each makes its call with what stands above, by way of callee, which is the call or a function that only returns. */
-#define CALLEE(call) ((__typeof__(&call))callee)
 
 static void start_up(void) {
     refusal = CALLEE(NAMED(start_up))(permissions, permissions_len);
@@ -99,7 +81,7 @@ static void put_number(uint8_t *to, uint32_t n) {
     to[1] = (uint8_t)n;
 }
 
-static void largest_tables(void) {
+static void largest(void) {
     memset(phys, 0, sizeof phys);
     for (uint32_t i = 0; i < PHYS; i++) {
         uint8_t *record = phys + RECORD * i;
@@ -303,12 +285,6 @@ static void request_cut(void) {
     request_len = 3;
 }
 
-struct trial {
-    const char *name;
-    code *caller, *call, *set_up;
-    uint32_t refusal, done;
-};
-
 #define TRIAL(call, ...) {SHELF #call, call, (code *)NAMED(call), __VA_ARGS__}
 
 static const struct trial trials[] = {
@@ -353,70 +329,7 @@ static const struct trial trials[] = {
     TRIAL(smp, request_cut, 4, 0),
 };
 
-static void fail(const struct trial *trial, int place, const char *why) {
-    fprintf(stderr, "stack: trial %d, %s: %s; refusal %u, answer %u\n", place, trial->name, why, refusal, done);
-    exit(1);
-}
-
-static void on_own_stack(code *run) {
-    __asm__ volatile("mov %%rsp, %%rbx\n\t"
-                     "mov %0, %%rsp\n\t"
-                     "call *%1\n\t"
-                     "mov %%rbx, %%rsp"
-                     :
-                     : "r"(stack + STACK), "r"(run)
-                     : "rax", "rbx", "rcx", "rdx", "rsi", "rdi", "r8", "r9", "r10", "r11", "xmm0", "xmm1", "xmm2", "xmm3",
-                       "xmm4", "xmm5", "xmm6", "xmm7", "xmm8", "xmm9", "xmm10", "xmm11", "xmm12", "xmm13", "xmm14", "xmm15",
-                       "cc", "memory");
-}
-
-static size_t depth(const struct trial *trial, code *call, int paint) {
-    largest_tables();
-    trial->set_up();
-    refusal = done = 0;
-    callee = call;
-    memset(stack, paint, STACK);
-    on_own_stack(trial->caller);
-    size_t untouched = 0;
-    while (untouched < STACK && stack[untouched] == paint) untouched++;
-    return STACK - untouched;
-}
-
-code only_returns, writes_1000_below;
-__asm__(".text\n"
-        "only_returns: ret\n"
-        "writes_1000_below: movb $0, -1000(%rsp)\nret");
-
-static size_t taken(const struct trial *trial, int place) {
-    static const int paints[] = {0x5c, 0xa3};
-    size_t most = 0;
-    for (size_t i = 0; i < sizeof paints / sizeof paints[0]; i++) {
-        size_t callers = depth(trial, only_returns, paints[i]) - RETURN_ADDRESS;
-        size_t all = depth(trial, trial->call, paints[i]);
-        if (refusal != trial->refusal || done != trial->done) fail(trial, place, "another answer than the trial is for");
-        if (all == STACK) fail(trial, place, "the painted stack is too small");
-        if (all - callers > most) most = all - callers;
-    }
-    return most;
-}
-
-/* A measure that always tells the same depth would tell it of this too. */
-static void check_measure(void) {
-    static const struct trial known = {"writes_1000_below", leaving, writes_1000_below, as_it_is, 0, 0};
-    size_t callers = depth(&known, only_returns, 0x5c) - RETURN_ADDRESS;
-    if (depth(&known, writes_1000_below, 0x5c) - callers != 1000 + RETURN_ADDRESS) fail(&known, 0, "measured wrongly");
-}
-
 int main(void) {
-    check_measure();
-    size_t count = sizeof trials / sizeof trials[0], most = 0;
-    for (size_t i = 0; i < count; i++) {
-        size_t bytes = taken(&trials[i], (int)i);
-        if (bytes > most) most = bytes;
-        if (i + 1 == count || trials[i + 1].call != trials[i].call) {
-            printf("stack of `%s` %zu\n", trials[i].name, most);
-            most = 0;
-        }
-    }
+    measure(trials, sizeof trials / sizeof trials[0]);
     return 0;
 }

@@ -38,20 +38,29 @@ bench="second/bench.sh target/bin/bench"
 step 'what each must-fail edit was refused at'
 python3 tests/edits.py target/must-fail
 
-step 'the two archives for C'
-# archived SHELF EXAMPLE: the archive of shelf or small, what it takes, its driver, and its example
+step 'the three archives for C'
+# archived NAME STACK: the archive of console, shelf or small, what it takes, and how much stack its calls take
 archived() {
     local archive=target/staticlib/lib$1_c.a
     rt staticlib "$1_c" >/dev/null
     tests/archive.sh "$archive" | tr , '\n' | sed "s/^ */$1: /" | tests/at_most.sh README.md
-    second/driver/build.sh "$archive" "target/$1_stack" tests/stack.c
+    second/driver/build.sh "$archive" "target/$1_stack" "$2"
     second/driver/run.sh "target/$1_stack" | tests/at_most.sh README.md
-    second/driver/build.sh "$archive" "target/$1_driver"
-    second/driver/build.sh "$archive" "target/$2" "examples/$2.c"
+}
+# example SHELF NAME: an example over that shelf's archive
+example() {
+    second/driver/build.sh "target/staticlib/lib$1_c.a" "target/$2" "examples/$2.c"
     second/driver/run.sh "target/$2" | diff - "examples/$2.txt"
 }
-archived shelf case
-archived small small
+archived console tests/console_stack.c
+archived shelf tests/stack.c
+archived small tests/stack.c
+example shelf case
+example small small
+example shelf console
+# The console's archive is linked into both drivers.
+second/driver/build.sh target/staticlib/libshelf_c.a target/shelf_driver
+second/driver/build.sh target/staticlib/libsmall_c.a target/small_driver
 
 step "the library against the second program, $calls calls for each shelf"
 second/target/release/differ large 'second/driver/run.sh target/shelf_driver' "$calls"
@@ -60,6 +69,9 @@ second/target/release/differ small 'second/driver/run.sh target/small_driver' "$
 step "the bench program's stored streams are those worked out by hand, and longer ones"
 python3 tests/make_streams.py --check
 python3 tests/long_streams.py
+
+step "the wardens' program against a model of its lines"
+python3 tests/warden.py
 
 step 'the bench program against the second program'
 second/target/release/streams "$bench"

@@ -30,7 +30,8 @@
  *   10h  console_phy_zones: first_phy and the entries pass the number of phys of that shelf
  *   11h  console_batch: first_group and the rows pass 128
  *
- * The archive is code and constants alone, and calls may run at once, as shelf.h says of its own. */
+ * The archive is code and constants alone, and calls may run at once, as shelf.h says of its own. README.md says how much stack each call
+ * takes. A program may include it beside shelf.h and small.h and link all three archives. */
 #ifndef CONSOLE_H
 #define CONSOLE_H
 
@@ -59,8 +60,8 @@ struct console_heard {
 struct console_built console_phy_zones(uint8_t *request, size_t request_len, uint32_t first_phy, const uint8_t *entries,
                                        size_t entries_len);
 
-/* C1h, one order: permission between groups a and b, on or off. complete: whether all ready phys are told. Refusals: 21, 23, 24. Writes
- * the first 12 bytes of request. */
+/* C1h, one order: permission between groups a (the request's source, byte 6) and b (its target, byte 7), on or off; a shelf switches both
+ * ways. complete: whether all ready phys are told. Refusals: 21, 23, 24. Writes the first 12 bytes of request. */
 struct console_built console_single(uint8_t *request, size_t request_len, uint32_t a, uint32_t b, uint32_t on, uint32_t complete);
 
 /* C1h, whole rows: choices has 128 bytes for each row from first_group on, byte j for group j, any other value than 0 is on. The bytes for

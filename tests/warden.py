@@ -234,7 +234,13 @@ class Lines:
         return bytes(self.r.choice(b' \t\r:|09azAZ\0\xff,') for _ in range(self.r.randrange(12)))
 
 
-def run(name, data, pieces=None):
+def shown():
+    """The lines that README.md shows, and the answers that it says they get."""
+    blocks = re.search(r'These lines\n\n(.*?)\n\ngive\n\n(.*?)\n\n', (ROOT / 'README.md').read_text(), re.S)
+    return (re.sub('^    ', '', block, flags=re.M).encode() + b'\n' for block in blocks.groups())
+
+
+def run(name, data, pieces=None, want=None):
     began = time.time()
     program = subprocess.Popen(COMMAND, stdin=subprocess.PIPE, stdout=subprocess.PIPE)
     given = data
@@ -245,13 +251,13 @@ def run(name, data, pieces=None):
             time.sleep(0.001)
         given = b''
     out, _ = program.communicate(given)
-    want = expected(data)
+    want = expected(data) if want is None else want
     good = out == want and program.returncode == 0
     print(f'{"ok" if good else "WRONG"}: {name}, {data.count(10)} line ends, {len(data)} bytes in, {len(out)} out, {time.time() - began:.2f} s')
     if not good:
         for a, b in zip(out.split(b'\n'), want.split(b'\n')):
             if a != b:
-                print(f'  the program: {a[:300]}\n  the model:   {b[:300]}')
+                print(f'  the program: {a[:300]}\n  expected:    {b[:300]}')
                 break
     return good
 
@@ -267,7 +273,9 @@ def main():
     groups = b' '.join(b'%d' % g for g in range(2, 128))
     largest = b'batch 2:' + b'|'.join([groups] * 63)
     report = bytes([0x41, 0x51, 0, 254, 0, 0, 65, 63]) + bytes(4) + b'\xff' * 1008
+    lines, answers = shown()
     good = [
+        run("README's lines", lines, want=answers),
         run('made-up lines', b'\n'.join(some)),
         run('the same, each ended by CR and LF', b'\r\n'.join(line for line in some if b'\r' not in line) + b'\r\n'),
         run('in pieces of 7 bytes', b'\n'.join(short), 7),

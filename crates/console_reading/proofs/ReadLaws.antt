@@ -1,14 +1,15 @@
 -- Reading: the results a function can give, the checks by kind of response, and the ends of the call.
 -- Assumes nothing.
-use mathlib.Core.Path.{_≡_, refl, sym, ap, _∙_}
+use mathlib.Core.Path.{_≡_, refl, sym, ap, _∙_, subst}
 use mathlib.Core.Bool.{Bool, true, false, cond, not}
 use mathlib.Core.List.{List, [], _∷_, _++_}
 use Prim.Native.Nat.{ℕ, zero, suc, _+_, _-_, _*_, _/_, _%_, _^_, _≤_, _<_}
+use native.Mathlib.Nat.{add-zero}
 use native.Mathlib.Omega.{arith}
 use borrow.Author.Tests.{le-ltb, ltb-false, eq-eqb, ne-eqb}
 use lib.Dec.{eqb, ltb}
-use lib.ListN.{length, getD, set, drop}
-use Rattle.wire.proofs.Loops.{Filled, fill-again}
+use lib.ListN.{length, getD, set, drop, length-set}
+use Rattle.wire.proofs.Loops.{Filled, fill-start, fill-again, fill-end}
 use lib.Seq.{getD-drop}
 use lib.Bits.{bitAnd, and-mask}
 use Rattle.wire.specs.Bits.{num, bit, tab}
@@ -17,7 +18,7 @@ use Rattle.tables.specs.Outcome.{Answer, answer, out}
 use Rattle.tables.specs.Refusals.{firstRefusal, Clear}
 use Rattle.tables.proofs.RefusalLaws.{clear, skipped, agrees-not}
 use Rattle.tables.proofs.OutcomeLaws.{gives}
-use Rattle.console_reading.specs.Reading.{among, possible, reports, startOf, countOf, rowsChecks, shortChecks, lengthChecks, headChecks, readChecks, unpacked, heard, rowsThen, readOut}
+use Rattle.console_reading.specs.Reading.{among, possible, reports, startOf, countOf, rowsChecks, shortChecks, lengthChecks, headChecks, readChecks, unpacked, eightFrom, heard, rowsThen, readOut}
 
 -- ---- one of these results, by each way out of a function that answers it
 module _ (r x : ℕ) (xs : List ℕ) where
@@ -82,22 +83,24 @@ module _ (response : List ℕ) where
   pub then-head : (room r : ℕ) → 8064 ≤ room → r ≡ firstRefusal (headChecks response) → r ≡ firstRefusal (readChecks response room)
   then-head room r l h = h ∙ sym (skipped 21 _ (headChecks response) l)
 
--- ---- a group's bit of a reported row, as the code reads it
-pub bit-read : (response : List ℕ) (i : ℕ)
-    → bitAnd (getD response (12 + (16 * (i / 128) + (15 - i % 128 / 8))) 0 / 2 ^ (i % 128 % 8)) 1 ≡ unpacked response i
-unfolding unpacked P place bit
-bit-read response i =
-    let p : 16 * (i / 128) + (15 - i % 128 / 8) ≡ i / 128 * 16 + (16 - 1 - i % 128 / 8) = omega arith in
-    and-mask (getD response (12 + (16 * (i / 128) + (15 - i % 128 / 8))) 0 / 2 ^ (i % 128 % 8)) 1
-    ∙ rw (p, ← getD-drop 12 response (i / 128 * 16 + (16 - 1 - i % 128 / 8)) 0) (sym (back (getD (drop 12 response) (i / 128 * 16 + (16 - 1 - i % 128 / 8)) 0 / 2 ^ (i % 128 % 8))))
-  where
-    half : (b : ℕ) → b < 2 → num (eqb b 1) ≡ b
-    half zero h = refl
-    half (suc zero) h = refl
-    half (suc (suc b)) h = absurd (omega arith)
+-- ---- a group's bit of a reported row
+pub bit-masked : (x k : ℕ) → bitAnd (x / 2 ^ k) 1 ≡ bit x k
+unfolding bit
+bit-masked x k = and-mask (x / 2 ^ k) 1
 
-    back : (x : ℕ) → num (eqb (x % 2) 1) ≡ x % 2
-    back x = half (x % 2) (omega arith)
+half : (b : ℕ) → b < 2 → num (eqb b 1) ≡ b
+half zero h = refl
+half (suc zero) h = refl
+half (suc (suc b)) h = absurd (omega arith)
+
+-- the bits of one byte are the eight groups from k on
+bit-at : (response : List ℕ) (k m : ℕ) → k % 8 ≡ 0 → m < 8 → bit (getD response (12 + (16 * (k / 128) + (15 - k % 128 / 8))) 0) m ≡ unpacked response (k + m)
+unfolding unpacked P place bit
+bit-at response k m e h =
+    let p : 16 * (k / 128) + (15 - k % 128 / 8) ≡ (k + m) / 128 * 16 + (16 - 1 - (k + m) % 128 / 8) = omega arith in
+    let q : (k + m) % 128 % 8 ≡ m = omega arith in
+    rw (p, q, ← getD-drop 12 response ((k + m) / 128 * 16 + (16 - 1 - (k + m) % 128 / 8)) 0)
+    (sym (half (getD (drop 12 response) ((k + m) / 128 * 16 + (16 - 1 - (k + m) % 128 / 8)) 0 / 2 ^ m % 2) (omega arith)))
 
 -- ---- the two ends of the call, with r the number that the checks answered
 head-passed : (response : List ℕ) → firstRefusal (headChecks response) ≡ 0 → (4 ≤ length response) × (firstRefusal (lengthChecks response) ≡ 0)
@@ -143,7 +146,57 @@ module _ (response rows rows₁ : List ℕ) (r : ℕ) (e : r ≡ firstRefusal (r
   unfolding heard rowsThen
   read-result t ea = gives _ _ r _ _ _ _ e z (rw (sym ev ∙ t) ea) (rw (sym ev ∙ t))
 
--- ---- the loop that unpacks
-pub unpack-again : (f : ℕ → ℕ) (count : ℕ) (s₀ s : List ℕ) (k x : ℕ) → count ≤ 63 → 8064 ≤ length s₀ → k < 128 * count → x ≡ f k
-    → Filled f (128 * count) s₀ s k → Filled f (128 * count) s₀ (set s k x) (k + 1)
-unpack-again f count s₀ s k x c l h e r = fill-again f (128 * count) s₀ s k x (omega arith) h e r
+-- ---- the loop that unpacks, eight groups at a time
+pub eight-stored : (s : List ℕ) (at x b0 b1 b2 b3 b4 b5 b6 b7 : ℕ) → b0 ≡ bit x 0 → b1 ≡ bit x 1 → b2 ≡ bit x 2 → b3 ≡ bit x 3 → b4 ≡ bit x 4 → b5 ≡ bit x 5
+    → b6 ≡ bit x 6 → b7 ≡ bit x 7
+    → set (set (set (set (set (set (set (set s at b0) (at + 1) b1) (at + 2) b2) (at + 3) b3) (at + 4) b4) (at + 5) b5) (at + 6) b6) (at + 7) b7 ≡ eightFrom x s at
+unfolding eightFrom
+eight-stored s at x b0 b1 b2 b3 b4 b5 b6 b7 e0 e1 e2 e3 e4 e5 e6 e7 = rw (e0, e1, e2, e3, e4, e5, e6, e7)
+
+pub length-eight : (x : ℕ) (s : List ℕ) (at : ℕ) → length (eightFrom x s at) ≡ length s
+unfolding eightFrom
+length-eight x s at = simp length-set
+
+pub record Eights (response rows₀ : List ℕ) (n : ℕ) (rows : List ℕ) (i : ℕ) : Type 0 where
+  pub whole : i % 8 ≡ 0
+  pub filled : Filled (unpacked response) n rows₀ rows i
+
+pub eights-start : (response rows : List ℕ) (n : ℕ) → Eights response rows n rows 0
+eights-start response rows n = record { whole = refl; filled = fill-start (unpacked response) n rows }
+
+-- one byte more behind k + m of them
+fill-next : (f : ℕ → ℕ) (n : ℕ) (s₀ s : List ℕ) (k m next x : ℕ) → next ≡ m + 1 → n ≤ length s₀ → k + m < n → x ≡ f (k + m) → Filled f n s₀ s (k + m)
+    → Filled f n s₀ (set s (k + m) x) (k + next)
+fill-next f n s₀ s k m next x e l h v r =
+    let p : k + m + 1 ≡ k + next = omega arith in
+    subst (λ (j : ℕ). Filled f n s₀ (set s (k + m) x) j) p (fill-again f n s₀ s (k + m) x l h v r)
+
+module _ (response rows₀ rows : List ℕ) (count k : ℕ) (c : count ≤ 63) (l : 8064 ≤ length rows₀) (h : k < 128 * count)
+    (r : Eights response rows₀ (128 * count) rows k) where
+  abbrev X : ℕ
+  X = getD response (12 + (16 * (k / 128) + (15 - k % 128 / 8))) 0
+
+  eights-filled : Filled (unpacked response) (128 * count) rows₀ (eightFrom X rows k) (k + 8)
+  unfolding eightFrom
+  eights-filled =
+      let w = r .whole in
+      let room : 128 * count ≤ length rows₀ = omega arith in
+      let next : (m : ℕ) → m < 8 → k + m < 128 * count = λ m u. omega arith in
+      let z : bit X 0 ≡ unpacked response k = bit-at response k 0 w (omega arith) ∙ ap (unpacked response) (add-zero k) in
+      let f1 = fill-again (unpacked response) (128 * count) rows₀ rows k (bit X 0) room h z (r .filled) in
+      let f2 = fill-next (unpacked response) (128 * count) rows₀ _ k 1 2 (bit X 1) refl room (next 1 (omega arith)) (bit-at response k 1 w (omega arith)) f1 in
+      let f3 = fill-next (unpacked response) (128 * count) rows₀ _ k 2 3 (bit X 2) refl room (next 2 (omega arith)) (bit-at response k 2 w (omega arith)) f2 in
+      let f4 = fill-next (unpacked response) (128 * count) rows₀ _ k 3 4 (bit X 3) refl room (next 3 (omega arith)) (bit-at response k 3 w (omega arith)) f3 in
+      let f5 = fill-next (unpacked response) (128 * count) rows₀ _ k 4 5 (bit X 4) refl room (next 4 (omega arith)) (bit-at response k 4 w (omega arith)) f4 in
+      let f6 = fill-next (unpacked response) (128 * count) rows₀ _ k 5 6 (bit X 5) refl room (next 5 (omega arith)) (bit-at response k 5 w (omega arith)) f5 in
+      let f7 = fill-next (unpacked response) (128 * count) rows₀ _ k 6 7 (bit X 6) refl room (next 6 (omega arith)) (bit-at response k 6 w (omega arith)) f6 in
+      fill-next (unpacked response) (128 * count) rows₀ _ k 7 8 (bit X 7) refl room (next 7 (omega arith)) (bit-at response k 7 w (omega arith)) f7
+
+  pub eights-again : (rows₁ : List ℕ) → rows₁ ≡ eightFrom X rows k → Eights response rows₀ (128 * count) rows₁ (k + 8)
+  eights-again rows₁ e =
+      let w = r .whole in
+      record { whole = omega arith; filled = subst (λ (s : List ℕ). Filled (unpacked response) (128 * count) rows₀ s (k + 8)) (sym e) eights-filled }
+
+pub eights-end : (response rows₀ : List ℕ) (n : ℕ) (rows : List ℕ) (i : ℕ) → n ≤ i → Eights response rows₀ n rows i
+    → rows ≡ tab (unpacked response) 0 n ++ drop n rows₀
+eights-end response rows₀ n rows i h r = fill-end (unpacked response) n rows₀ rows i h (r .filled)

@@ -3,8 +3,8 @@ use mathlib.Core.Bool.{Bool, false, cond, _&&_, _||_}
 use mathlib.Core.List.{List, [], _∷_, _++_}
 use Prim.Native.Nat.{ℕ, _+_, _*_, _/_, _%_}
 use lib.Dec.{eqb}
-use lib.ListN.{length, getD, drop}
-use Rattle.wire.specs.Bits.{num, tab}
+use lib.ListN.{length, getD, drop, set}
+use Rattle.wire.specs.Bits.{num, bit, tab}
 use Rattle.permit.specs.Permission.{P}
 use Rattle.tables.specs.Refusals.{Check, refuse, below, differ, off, firstRefusal}
 use Rattle.tables.specs.Outcome.{Answer, refusal, answer, Out, outcome}
@@ -74,6 +74,17 @@ readChecks response room = refuse 21 (below room 8064) ∷ headChecks response
 -- byte i of the rows as they are lent out, 128 a row: 1 where the report's row permits the group, else 0
 unfoldable pub unpacked : List ℕ → ℕ → ℕ
 unpacked response i = num (P 16 (drop 12 response) (i / 128) (i % 128))
+
+-- a buffer with the bits of x in the eight places from `at` on: what an inner function leaves
+unfoldable pub eightFrom : ℕ → List ℕ → ℕ → List ℕ
+eightFrom x s at =
+    set
+    (set
+    (set
+    (set (set (set (set (set s at (bit x 0)) (at + 1) (bit x 1)) (at + 2) (bit x 2)) (at + 3) (bit x 3)) (at + 4) (bit x 4))
+    (at + 5) (bit x 5))
+    (at + 6) (bit x 6))
+    (at + 7) (bit x 7)
 
 unfoldable pub heard : List ℕ → List ℕ
 heard response =

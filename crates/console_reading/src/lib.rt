@@ -5,10 +5,10 @@ ghost use mathlib.Core.Path.{_≡_};
 ghost use mathlib.Core.List.{[], _∷_, _++_};
 ghost use Prim.Native.Nat.{_+_, _*_, _/_, _≤_, _<_};
 ghost use lib.ListN.{length, drop, getD};
-ghost use Rattle.wire.specs.Bits.{tab};
+ghost use Rattle.wire.specs.Bits.{bit, tab};
 ghost use Rattle.tables.specs.Refusals.{firstRefusal, Clear};
 ghost use Rattle.tables.specs.Outcome.{answer, out};
-ghost use Rattle.console_reading.specs.Reading.{heardAs, among, possible, reports, startOf, countOf, rowsChecks, shortChecks, headChecks, readChecks, unpacked, readOut};
+ghost use Rattle.console_reading.specs.Reading.{heardAs, among, possible, reports, startOf, countOf, rowsChecks, shortChecks, headChecks, readChecks, unpacked, eightFrom, readOut};
 
 pub enum Heard {
     Refused(u8),
@@ -168,16 +168,30 @@ fn read_refusal(response: &[u8], room: usize) -> u8
     head_refusal(response)
 }
 
-// Byte i of the rows: 1 where the report's row permits the group, else 0.
-fn unpacked_byte(response: &[u8], i: usize) -> u8
-    requires { ⌜ (12 + 16 * (i / 128) + 16 ≤ length (now response)) × (i < 8064) ⌝ }
-    ensures { λ r. ⌜ r ≡ unpacked (now (response .entry)) i ⌝ }
+// Bit k of a byte: of a row's byte, whether its group with j mod 8 = k is on.
+fn bit_of(x: u8, k: u8) -> u8
+    requires { ⌜ k < 8 ⌝ }
+    ensures { λ r. ⌜ r ≡ bit x k ⌝ }
 {
-    let j = i % 128;
-    let x = response[12 + (16 * (i / 128) + (15 - j / 8))];
-    x >> (j % 8) & 1
+    x >> k & 1
 }
 
+// The eight groups of one byte of a row, a byte each.
+fn unpack_eight(x: u8, rows: &mut [u8], at: usize)
+    requires { ⌜ at + 8 ≤ length (now rows) ⌝ }
+    ensures { λ _. ⌜ now (rows .exit) ≡ eightFrom x (now (rows .entry)) at ⌝ }
+{
+    rows[at] = bit_of(x, 0);
+    rows[at + 1] = bit_of(x, 1);
+    rows[at + 2] = bit_of(x, 2);
+    rows[at + 3] = bit_of(x, 3);
+    rows[at + 4] = bit_of(x, 4);
+    rows[at + 5] = bit_of(x, 5);
+    rows[at + 6] = bit_of(x, 6);
+    rows[at + 7] = bit_of(x, 7);
+}
+
+// Group j is in byte 15 - j/8 of its row.
 fn unpack(response: &[u8], rows: &mut [u8], count: u8)
     requires { ⌜ (12 + 16 * count ≤ length (now response)) × (count ≤ 63) × (8064 ≤ length (now rows)) ⌝ }
     ensures { λ _. ⌜ now (rows .exit) ≡ tab (unpacked (now (response .entry))) 0 (128 * count) ++ drop (128 * count) (now (rows .entry)) ⌝ }
@@ -185,8 +199,10 @@ fn unpack(response: &[u8], rows: &mut [u8], count: u8)
     let n = 128 * (count as usize);
     let mut i: usize = 0;
     while i < n {
-        rows[i] = unpacked_byte(response, i);
-        i += 1;
+        let j = i % 128;
+        let x = response[12 + (16 * (i / 128) + (15 - j / 8))];
+        unpack_eight(x, rows, i);
+        i += 8;
     }
 }
 

@@ -1,15 +1,13 @@
 -- `console_reading::unpack` meets its contract.
 -- Assumes nothing.
-use native.Mathlib.Omega.{arith}
 use Prim.Native.Nat.{_-_}
-use Rattle.wire.proofs.Loops.{Filled, fill-start, fill-end}
-use Rattle.console_reading.proofs.ReadLaws.{unpack-again}
-use Rattle.console_reading.specs.Reading.{unpacked}
+use native.Mathlib.Omega.{arith}
+use Rattle.console_reading.proofs.ReadLaws.{Eights, eights-start, eights-again, eights-end}
 use Rattle.console_reading.proofs.unpack.Statement.{statement}
 use Rattle.console_reading.proofs.unpack.Tie as tie
 
 abbrev Inv-loop : tie.InvT-loop
-Inv-loop response rows₀ count n i₀ rows i = Filled (unpacked response) n rows₀ rows i
+Inv-loop response rows₀ count n i₀ rows i = Eights response rows₀ n rows i
 
 abbrev μ-loop : tie.MeasureT-loop
 μ-loop response rows₀ count n i₀ rows i = n - i
@@ -18,13 +16,25 @@ mul-n : tie.Need-mul-n Inv-loop μ-loop
 mul-n c = omega arith
 
 loop-holds : tie.Need-loop-holds Inv-loop μ-loop
-loop-holds c = search fill-start
+loop-holds c = search eights-start
 
-unpacked-byte-requires : tie.Need-unpacked-byte-requires Inv-loop μ-loop
-unpacked-byte-requires c κs = omega arith
+mul-x : tie.Need-mul-x Inv-loop μ-loop
+mul-x c = omega arith
 
-slice-write-rows : tie.Need-slice-write-rows Inv-loop μ-loop
-slice-write-rows c = omega arith
+sub-x : tie.Need-sub-x Inv-loop μ-loop
+sub-x c = omega arith
+
+add-x : tie.Need-add-x Inv-loop μ-loop
+add-x c = omega arith
+
+add-x-2 : tie.Need-add-x-2 Inv-loop μ-loop
+add-x-2 c = omega arith
+
+shared-slice-read-x : tie.Need-shared-slice-read-x Inv-loop μ-loop
+shared-slice-read-x c = omega arith
+
+unpack-eight-requires : tie.Need-unpack-eight-requires Inv-loop μ-loop
+unpack-eight-requires c κs = omega arith
 
 add-i : tie.Need-add-i Inv-loop μ-loop
 add-i c = omega arith
@@ -33,13 +43,13 @@ loop-less : tie.Need-loop-less Inv-loop μ-loop
 loop-less c = omega arith
 
 loop-again : tie.Need-loop-again Inv-loop μ-loop
-loop-again c = search unpack-again
+loop-again c = search eights-again
 
 same-length : tie.Need-same-length Inv-loop μ-loop
 same-length c = omega arith
 
 returns : tie.Need-returns Inv-loop μ-loop
-returns c = search fill-end
+returns c = search eights-end
 
 pub unpack-spec : {M : Type 1} → statement M
 unpack-spec =
@@ -49,8 +59,12 @@ unpack-spec =
     μ-loop
     mul-n
     loop-holds
-    unpacked-byte-requires
-    slice-write-rows
+    mul-x
+    sub-x
+    add-x
+    add-x-2
+    shared-slice-read-x
+    unpack-eight-requires
     add-i
     loop-less
     loop-again

@@ -1,4 +1,5 @@
--- Request 06: what a warden reads out of a response.
+-- Request 06, reading: "a result, and for an accepted report the first group and rows as 0 or 1 for each group into a lent buffer"; 25 for "a length or
+-- bytes 0 to 7 that none of the three requests can get, from any shelf".
 use mathlib.Core.Bool.{Bool, false, cond, _&&_, _||_}
 use mathlib.Core.List.{List, [], _∷_, _++_}
 use Prim.Native.Nat.{ℕ, _+_, _*_, _/_, _%_}
@@ -34,13 +35,15 @@ possible function r =
 unfoldable pub reports : List ℕ → Bool
 reports response = eqb (getD response 1 0) 0x51 && eqb (getD response 2 0) 0x00
 
+-- document 01, of a report: "byte 6 start, byte 7 r"
 abbrev pub startOf : List ℕ → ℕ
 startOf response = getD response 6 0
 
 abbrev pub countOf : List ℕ → ℕ
 countOf response = getD response 7 0
 
--- "bytes 4 and 5 zero, start at most 127, rows at most 63 and start + rows at most 128, length 12 + 16 rows exactly"
+-- of an accepted report "bytes 4 and 5 zero, start at most 127, rows at most 63 and start + rows at most 128 (no rows is possible), length 12 + 16
+-- rows exactly", and the "length field and length that agree"; "bytes 8 to 11 are not looked at"
 abbrev pub rowsChecks : List ℕ → List Check
 rowsChecks response =
     refuse 25 (below (length response) 12)
@@ -53,13 +56,15 @@ rowsChecks response =
     ∷ refuse 25 (differ (length response) (12 + 16 * countOf response))
     ∷ []
 
--- "four bytes unless it is an accepted report"
+-- "four bytes unless it is an accepted report", and a length field of 0
 abbrev pub shortChecks : List ℕ → List Check
 shortChecks response = refuse 25 (differ (length response) 4) ∷ refuse 25 (differ (getD response 3 0) 0) ∷ []
 
+-- which of the two it is: "a four-byte 51h with result 00h is 25"
 unfoldable pub lengthChecks : List ℕ → List Check
 lengthChecks response = cond (reports response) (rowsChecks response) (shortChecks response)
 
+-- "41h; the function; a result that this function can give", and then its length
 abbrev pub headChecks : List ℕ → List Check
 headChecks response =
     refuse 25 (below (length response) 4)
@@ -86,10 +91,12 @@ eightFrom x s at =
     (at + 6) (bit x 6))
     (at + 7) (bit x 7)
 
+-- the values: function and result as they stand; of an accepted report its first group and how many rows as well
 unfoldable pub heard : List ℕ → List ℕ
 heard response =
     cond (reports response) (0x51 ∷ 0x00 ∷ startOf response ∷ countOf response ∷ []) (getD response 1 0 ∷ getD response 2 0 ∷ [])
 
+-- the rows buffer then: an accepted report's rows at its front, and what stood behind; else as it was
 unfoldable pub rowsThen : List ℕ → List ℕ → List ℕ
 rowsThen response rows =
     cond (reports response) (tab (unpacked response) 0 (128 * countOf response) ++ drop (128 * countOf response) rows) rows

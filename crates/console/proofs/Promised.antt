@@ -13,7 +13,9 @@ use Rattle.permit.specs.Permission.{P}
 use Rattle.console_rows.specs.Batches.{choiceRows, chosen, packed, batchRequest}
 use Rattle.console_zones.specs.Zones.{entryByte, phyZonesRequest}
 use Rattle.console_reading.specs.Reading.{unpacked}
-use Rattle.console.specs.Promises.{SameOrder, SameZones, Never, Exact24, AllRead, OnlyHeads, SameRows, SentBack, Worked}
+use Rattle.console_orders.proofs.Unique.{built-once}
+use Rattle.console_reading.proofs.Unique.{heard-once}
+use Rattle.console.specs.Promises.{SameOrder, SameZones, Never, Exact24, AllRead, OnlyHeads, SameRows, SentBack, ExactlyOne, Worked}
 use Rattle.console.proofs.Rows.{packed-read}
 use Rattle.console.proofs.Zones.{same-zones}
 use Rattle.console.proofs.Reports.{all-read, same-rows}
@@ -37,6 +39,9 @@ sent-back response start k i j complete hi hj =
     ∙ ap (λ (x : ℕ). not (eqb x 0)) v
     ∙ on-num (P 16 (drop 12 response) i j)
 
+pub exactly-one : ExactlyOne
+exactly-one = (built-once, heard-once)
+
 pub worked : Worked
 unfolding batchRequest packed chosen setByte bitsOf tab phyZonesRequest entryByte
 worked = record { case1 = refl; group5 = refl; odd = refl; part = refl; asks = refl }
@@ -50,6 +55,7 @@ pub record Promised : Type 0 where
   pub onlyHeads : OnlyHeads
   pub sameRows : SameRows
   pub sentBack : SentBack
+  pub exactlyOne : ExactlyOne
   pub works : Worked
 
 pub promised : Promised
@@ -62,5 +68,6 @@ promised = record {
   onlyHeads = only-heads;
   sameRows = same-rows;
   sentBack = sent-back;
+  exactlyOne = exactly-one;
   works = worked;
 }

@@ -9,17 +9,19 @@ use lib.ListN.{length, getD, take, drop, replicate}
 use Rattle.wire.specs.Bits.{num, tab}
 use Rattle.permit.specs.Permission.{groups, P, reaches}
 use Rattle.tables.specs.Refusals.{firstRefusal}
-use Rattle.tables.specs.Outcome.{answer, out}
+use Rattle.tables.specs.Outcome.{answer, Out, out}
 use Rattle.tables.specs.Phys.{phyCount, participating, phyPriority, phyGroup}
 use Rattle.requests.specs.Requests.{Reply, responseOf}
 use Rattle.zone_report.specs.ZoneReport.{rowCount, startRow}
 use Rattle.discover.specs.declared.Changes.{Changes}
 use Rattle.rules.specs.Rules.{functionOf, smpReply}
 use Rattle.smp.specs.Smp.{roomFor, smpChecks, valuesOf, buffersOf, smpOut, acceptedOrders}
-use Rattle.console_orders.specs.Building.{singleRequest, reportRequest}
+use Rattle.console_orders.specs.declared.Built.{Built}
+use Rattle.console_orders.specs.Building.{builtAs, singleRequest, reportRequest}
 use Rattle.console_rows.specs.Batches.{batchRequest}
 use Rattle.console_zones.specs.Zones.{entryCount, takesPart, priorityAt, groupAt, phyZonesRequest}
-use Rattle.console_reading.specs.Reading.{headChecks, unpacked, heard, rowsThen, readOut}
+use Rattle.console_reading.specs.declared.Heard.{Heard}
+use Rattle.console_reading.specs.Reading.{heardAs, headChecks, unpacked, heard, rowsThen, readOut}
 use Rattle.console.specs.Asks.{Ask, zones, checksOf, requestOf, ordersNamed, chosenZones, resultNamed, named, Rightful}
 
 -- "What it builds, the library must read as the same order, for 0 to 128 phys or 0 to 63 rows": for every request that is not refused, of any
@@ -129,6 +131,13 @@ abbrev pub SentBack : Type 0
 SentBack =
     (response : List ℕ) (start k i j : ℕ) (complete : Bool) → i < k → j < 128
     → P 16 (drop 12 (batchRequest start (tab (unpacked response) 0 (128 * k)) complete)) i j ≡ P 16 (drop 12 response) i j
+
+-- "each function leaves one answer and one content of each buffer": two answers r and q with buffers xs and ys that meet the contract on the same
+-- input, whose definition gives o, are the same; of the four that build and of the one that reads
+abbrev pub ExactlyOne : Type 0
+ExactlyOne =
+    ((r q : Built) (xs ys : List (List ℕ)) (o : Out) → out (builtAs r) xs ≡ o → out (builtAs q) ys ≡ o → (r ≡ q) × (xs ≡ ys))
+    × ((r q : Heard) (xs ys : List (List ℕ)) (o : Out) → out (heardAs r) xs ≡ o → out (heardAs q) ys ≡ o → (r ≡ q) × (xs ≡ ys))
 
 -- worked requests: case 1 of document 01; a row with group 5 (and not 122); an odd number of phys; two phys, one participating; a report
 pub record Worked : Type 0 where

@@ -1,0 +1,3 @@
+pub mod ImportLaws
+pub mod Accepted
+pub mod Unique

@@ -1,0 +1,59 @@
+-- `exports::put_sheet` meets its contract.
+-- Assumes nothing.
+use Prim.Native.Nat.{_-_}
+use borrow.Author.Needs.{needs}
+use Rattle.permit.specs.Permission.{groups}
+use Rattle.exports.specs.Export.{rowText}
+use Rattle.exports.proofs.ExportLaws.{Putting, putting-start, putting-length, putting-again, sheet-room, sheet-end}
+use native.Mathlib.Omega.{arith}
+use Rattle.exports.proofs.put_sheet.Statement.{statement}
+use Rattle.exports.proofs.put_sheet.Tie as tie
+
+abbrev Inv-loop : tie.InvT-loop
+Inv-loop width permissions text₀ end₀ a₀ text end a = Putting (rowText width permissions) 2 (groups width) text₀ 0 text end a
+
+abbrev μ-loop : tie.MeasureT-loop
+μ-loop width permissions text₀ end₀ a₀ text end a = groups width - a
+
+loop-holds : tie.Need-loop-holds Inv-loop μ-loop
+loop-holds c = putting-start _ _ _ _ _ (omega arith)
+
+cast-loop : tie.Need-cast-loop Inv-loop μ-loop
+cast-loop c = search needs
+
+mul-loop : tie.Need-mul-loop Inv-loop μ-loop
+mul-loop c = omega arith
+
+put-row-requires : tie.Need-put-row-requires Inv-loop μ-loop
+put-row-requires c κs = (search needs, omega arith, search sheet-room)
+
+add-a : tie.Need-add-a Inv-loop μ-loop
+add-a c = omega arith
+
+loop-less : tie.Need-loop-less Inv-loop μ-loop
+loop-less c = omega arith
+
+loop-again : tie.Need-loop-again Inv-loop μ-loop
+loop-again c = search putting-again
+
+same-length : tie.Need-same-length Inv-loop μ-loop
+same-length c = search putting-length
+
+returns : tie.Need-returns Inv-loop μ-loop
+returns c = search sheet-end
+
+pub put-sheet-spec : {M : Type 1} → statement M
+put-sheet-spec =
+    tie.close
+    (tie.spec
+    Inv-loop
+    μ-loop
+    loop-holds
+    cast-loop
+    mul-loop
+    put-row-requires
+    add-a
+    loop-less
+    loop-again
+    same-length
+    returns)

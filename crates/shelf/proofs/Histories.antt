@@ -18,7 +18,7 @@ use Rattle.permit.proofs.Laws.{length-start}
 use Rattle.permit.proofs.ReachLaws.{reach-in, reaches-mutual}
 use Rattle.permit.proofs.HistoryLaws.{apply-append, length-apply, valid-append, history}
 use Rattle.tables.specs.Refusals.{firstRefusal}
-use Rattle.tables.specs.Outcome.{outcome}
+use Rattle.tables.specs.Outcome.{out, outcome}
 use Rattle.tables.specs.Phys.{phyGroup}
 use Rattle.links.specs.Links.{startUpOut}
 use Rattle.opens.specs.Open.{openSource}
@@ -28,7 +28,9 @@ use Rattle.told_set.proofs.ToldLaws as broadcasts
 use Rattle.discover.specs.declared.Changes.{Changes}
 use Rattle.smp.specs.Smp.{roomFor, smpChecks, smpOut, acceptedOrders}
 use Rattle.smp.proofs.SmpLaws.{permissionsAfter, orders-applied, orders-valid}
-use Rattle.shelf.specs.Calls.{Call, startUp, leaving, identify, elect, opening, primitive, broadcastFrame, smp, outcomeOf, bufferOf, after, accepted, kept, run, orders}
+use Rattle.imports.specs.Import.{importOut, importOrders}
+use Rattle.imports.proofs.Accepted as imports
+use Rattle.shelf.specs.Calls.{Call, startUp, leaving, identify, elect, opening, primitive, broadcastFrame, smp, importSheet, exportSheet, outcomeOf, answerOf, bufferOf, after, accepted, kept, run, orders}
 use Rattle.shelf.specs.Promises.{History, BothWays, NoOpen, NoBroadcast, NoDiscover}
 use Rattle.shelf.proofs.Answers.{gave, forwarded, vacant}
 
@@ -58,6 +60,17 @@ unfolding permissionsAfter
 smp-table w phys t phy carried changes request response set =
     second (firstRefusal (smpChecks w phys t phy carried changes request (roomFor response set))) _ _ _ _ _ _ _
 
+-- of an outcome of one buffer, whichever its number: it is the answer and that buffer
+whole : (n : ℕ) (values a b : List ℕ) → outcome n values (a ∷ []) (b ∷ []) ≡ out (answerOf (outcome n values (a ∷ []) (b ∷ []))) (bufferOf 0 (outcome n values (a ∷ []) (b ∷ [])) ∷ [])
+unfolding outcome
+whole zero values a b = refl
+whole (suc n) values a b = refl
+
+-- an import's table is what its accepted orders make of the one handed in
+import-table : (w : ℕ) (phys t : List ℕ) (phy carried : ℕ) (sheet : List ℕ)
+    → bufferOf 0 (importOut w phys t phy carried sheet) ≡ apply w (importOrders w phys t phy carried sheet) t
+import-table w phys t phy carried sheet = imports.orders-applied w phys t phy carried sheet _ _ (whole _ _ _ _)
+
 start-table : (w : ℕ) (t : List ℕ) → length t ≡ tableSize w → bufferOf 0 (startUpOut w t) ≡ startTable w
 unfolding outcome firstRefusal
 start-table w t e = rw (eq-eqb (length t) (tableSize w) e)
@@ -84,6 +97,13 @@ step w (elect phys routes) t os m = nothing-more w t os m
 step w (opening phys routes phy frame buffer) t os m = nothing-more w t os m
 step w (primitive phys phy number set frame) t os m = nothing-more w t os m
 step w (broadcastFrame phys phy arrived set frame) t os m = nothing-more w t os m
+step w (exportSheet sheet) t os m = nothing-more w t os m
+step w (importSheet phys phy carried sheet) t os m =
+    let os₁ = importOrders w phys t phy carried sheet in
+    record {
+      made = import-table w phys t phy carried sheet ∙ ap (apply w os₁) (m .made) ∙ sym (apply-append w os os₁ (startTable w));
+      valid = valid-append w os os₁ (m .valid) (imports.valid-orders w phys t phy carried sheet);
+    }
 step w (smp phys phy carried changes request response set) t os m =
     let os₁ = acceptedOrders w phys t phy carried changes request (roomFor response set) in
     record {

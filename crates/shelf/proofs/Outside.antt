@@ -11,6 +11,8 @@ use borrow.Author.Tests.{not-false}
 use Rattle.wire.specs.declared.OutsideGroup.{OutsideGroup}
 use Rattle.wire.specs.Groups.{outsideGroup, isGroup}
 use Rattle.wire.proofs.GroupLaws.{taken-none, outside-none}
+use lib.Dec.{leb}
+use lib.ListN.{length}
 use Rattle.permit.specs.Permission.{permissionsSized}
 use Rattle.tables.specs.Outcome.{answer, out, outcome}
 use Rattle.tables.specs.Phys.{participating}
@@ -27,6 +29,8 @@ use Rattle.discover.specs.declared.Changes.{Changes}
 use Rattle.discover.specs.Discover.{reachesPhy, shown, discoverReply}
 use Rattle.rules.specs.Rules.{smpReply, lengthField}
 use Rattle.smp.specs.Smp.{roomFor, smpOut}
+use Rattle.sheet_lines.specs.Line.{sheetMost}
+use Rattle.imports.specs.Import.{importOut}
 use Rattle.shelf.specs.Calls.{outcomeOf}
 use Rattle.shelf.specs.Promises.{NoGroupNoAnswer, CarriedUnread, Skipped}
 
@@ -60,6 +64,9 @@ no-group = (
   λ w phys t phy arrived set frame v bs e.
       let k = arrival-clear phys phy (permissionsSized w t) (broadcasts.roomFor set frame) true _ _ refl (unrefused _ _ _ _ v bs e) tt in
       group-most (broadcasts.frameSource arrived) (second _ _ (not-false (participating phys phy) (k .1 .1 .1 .1 .1 .1 .0)) (k .1 .1 .1 .1 .1 .0)),
+  λ w phys t phy carried sheet v bs p e.
+      let k = arrival-clear phys phy (permissionsSized w t) (leb (length sheet) sheetMost) true _ _ refl (unrefused _ _ _ _ v bs e) tt in
+      group-most carried (sym (ap (λ (o : OutsideGroup). not (isGroup o)) (speaks phys phy carried p)) ∙ k .1 .0),
 )
 
 -- ---- a request is answered by its source alone
@@ -77,9 +84,17 @@ module _ (w : ℕ) (phys t : List ℕ) (phy carried other : ℕ) (e : smpSource 
   unfolding lengthField
   same-out changes request response set = rw (e, same-reply changes request)
 
+-- and so is a sheet
+same-import : (w : ℕ) (phys : List ℕ) (phy carried other : ℕ) (e : smpSource phys phy carried ≡ smpSource phys phy other) (t sheet : List ℕ)
+    → importOut w phys t phy carried sheet ≡ importOut w phys t phy other sheet
+same-import w phys phy carried other e t sheet = rw e
+
 pub carried-unread : CarriedUnread
 unfolding outcomeOf smpSource
-carried-unread w phys t phy carried other changes request response set p = same-out w phys t phy carried other (rw p) changes request response set
+carried-unread = (
+  λ w phys t phy carried other changes request response set p. same-out w phys t phy carried other (rw p) changes request response set,
+  λ w phys t phy carried other sheet p. same-import w phys phy carried other (rw p) t sheet,
+)
 
 -- ---- routes
 pub skipped : Skipped

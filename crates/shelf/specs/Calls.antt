@@ -12,6 +12,8 @@ use Rattle.opens.specs.Open.{openOut}
 use Rattle.broadcasts.specs.Broadcasts.{primitiveOut, broadcastOut}
 use Rattle.discover.specs.declared.Changes.{Changes}
 use Rattle.smp.specs.Smp.{roomFor, smpOut, acceptedOrders}
+use Rattle.imports.specs.Import.{importOut, importOrders}
+use Rattle.exports.specs.Export.{exportOut}
 
 -- the other tables may be anything at each call
 pub data Call : Type 0 where
@@ -23,6 +25,8 @@ pub data Call : Type 0 where
   primitive : (phys : List ℕ) (phy number : ℕ) (set frame : List ℕ) → Call
   broadcastFrame : (phys : List ℕ) (phy : ℕ) (arrived set frame : List ℕ) → Call
   smp : (phys : List ℕ) (phy carried : ℕ) (changes : Changes) (request response set : List ℕ) → Call
+  importSheet : (phys : List ℕ) (phy carried : ℕ) (sheet : List ℕ) → Call
+  exportSheet : (sheet : List ℕ) → Call
 
 -- what a call gives, lent the permission table t, whose rows have w bytes: the definition in its contract. Document 01's shelf is w = 16,
 -- the small shelf w = 1.
@@ -35,6 +39,8 @@ outcomeOf w (opening phys routes phy frame buffer) t = openOut w phys routes t p
 outcomeOf w (primitive phys phy number set frame) t = primitiveOut w phys t phy number set frame
 outcomeOf w (broadcastFrame phys phy arrived set frame) t = broadcastOut w phys t phy arrived set frame
 outcomeOf w (smp phys phy carried changes request response set) t = smpOut w phys t phy carried changes request response set
+outcomeOf w (importSheet phys phy carried sheet) t = importOut w phys t phy carried sheet
+outcomeOf w (exportSheet sheet) t = exportOut w t sheet
 
 -- the buffers that a call is lent to be written, as they were handed in
 unfoldable pub handedIn : Call → List ℕ → List (List ℕ)
@@ -46,6 +52,8 @@ handedIn (opening phys routes phy frame buffer) t = buffer ∷ []
 handedIn (primitive phys phy number set frame) t = set ∷ frame ∷ []
 handedIn (broadcastFrame phys phy arrived set frame) t = set ∷ frame ∷ []
 handedIn (smp phys phy carried changes request response set) t = phys ∷ t ∷ response ∷ set ∷ []
+handedIn (importSheet phys phy carried sheet) t = t ∷ []
+handedIn (exportSheet sheet) t = sheet ∷ []
 
 -- the answer alone
 abbrev pub answerOf : Out → Answer
@@ -55,7 +63,7 @@ answerOf (out a bs) = a
 abbrev pub bufferOf : ℕ → Out → List ℕ
 bufferOf k (out a bs) = getD bs k []
 
--- the permission table after a call: only start-up and SMP are lent it to be written
+-- the permission table after a call: only start-up, SMP and an import are lent it to be written
 unfoldable pub after : ℕ → Call → List ℕ → List ℕ
 after w startUp t = bufferOf 0 (outcomeOf w startUp t)
 after w (smp phys phy carried changes request response set) t = bufferOf 1 (outcomeOf w (smp phys phy carried changes request response set) t)
@@ -65,8 +73,10 @@ after w (elect phys routes) t = t
 after w (opening phys routes phy frame buffer) t = t
 after w (primitive phys phy number set frame) t = t
 after w (broadcastFrame phys phy arrived set frame) t = t
+after w (importSheet phys phy carried sheet) t = bufferOf 0 (outcomeOf w (importSheet phys phy carried sheet) t)
+after w (exportSheet sheet) t = t
 
--- the orders that a call accepted: those of an SMP request answered 00h with C1h
+-- the orders that a call accepted: those of an SMP request answered 00h with C1h; of an import its lines, up to the first that failed
 unfoldable pub accepted : ℕ → Call → List ℕ → List Order
 accepted w (smp phys phy carried changes request response set) t = acceptedOrders w phys t phy carried changes request (roomFor response set)
 accepted w startUp t = []
@@ -76,6 +86,8 @@ accepted w (elect phys routes) t = []
 accepted w (opening phys routes phy frame buffer) t = []
 accepted w (primitive phys phy number set frame) t = []
 accepted w (broadcastFrame phys phy arrived set frame) t = []
+accepted w (importSheet phys phy carried sheet) t = importOrders w phys t phy carried sheet
+accepted w (exportSheet sheet) t = []
 
 -- "A restart begins the history afresh.": what is kept of the orders os as the call starts, lent the table t. A start-up that is refused (the
 -- table has not its size) is none.
@@ -88,6 +100,8 @@ kept w (opening phys routes phy frame buffer) t os = os
 kept w (primitive phys phy number set frame) t os = os
 kept w (broadcastFrame phys phy arrived set frame) t os = os
 kept w (smp phys phy carried changes request response set) t os = os
+kept w (importSheet phys phy carried sheet) t os = os
+kept w (exportSheet sheet) t os = os
 
 -- "while each call is lent the same permission table and only this software writes it": the table after a run of calls
 unfoldable pub run : ℕ → List Call → List ℕ → List ℕ

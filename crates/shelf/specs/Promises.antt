@@ -34,7 +34,9 @@ use Rattle.discover.specs.declared.Changes.{Changes}
 use Rattle.discover.specs.Discover.{lengthSaid, ignoresGroups, askedPhy}
 use Rattle.rules.specs.Rules.{functionOf}
 use Rattle.smp.specs.Smp.{answeredAs}
-use Rattle.shelf.specs.Calls.{Call, startUp, leaving, opening, primitive, broadcastFrame, smp, outcomeOf, handedIn, answerOf, after, run, orders}
+use Rattle.imports.specs.Import.{importedAs}
+use Rattle.exports.specs.Export.{exportedAs}
+use Rattle.shelf.specs.Calls.{Call, startUp, leaving, opening, primitive, broadcastFrame, smp, importSheet, outcomeOf, handedIn, answerOf, after, run, orders}
 
 -- ---- Answers
 
@@ -57,9 +59,9 @@ TurnedDown =
 abbrev pub One : {A : Type 0} → (A → Answer) → Type 0
 One {A} tells = (r q : A) (xs ys : List (List ℕ)) (o : Out) → out (tells r) xs ≡ o → out (tells q) ys ≡ o → (r ≡ q) × (xs ≡ ys)
 
--- of start_up, leaving and identify; elect; open; primitive and broadcast_frame; smp
+-- of start_up, leaving and identify; elect; open; primitive and broadcast_frame; smp; import_sheet; export_sheet
 abbrev pub ExactlyOne : Type 0
-ExactlyOne = One linkedAs × One electedAs × One openedAs × One toldAs × One answeredAs
+ExactlyOne = One linkedAs × One electedAs × One openedAs × One toldAs × One answeredAs × One importedAs × One exportedAs
 
 -- ---- History
 
@@ -205,12 +207,16 @@ NoGroupNoAnswer =
     → outcomeOf w (smp phys phy carried changes request response set) t ≡ out (answer v) bs → carried ≤ 127)
     × ((w : ℕ) (phys t : List ℕ) (phy : ℕ) (arrived set frame v : List ℕ) (bs : List (List ℕ))
     → outcomeOf w (broadcastFrame phys phy arrived set frame) t ≡ out (answer v) bs → frameSource arrived ≤ 127)
+    × ((w : ℕ) (phys t : List ℕ) (phy carried : ℕ) (sheet v : List ℕ) (bs : List (List ℕ)) → participating phys phy ≡ true
+    → outcomeOf w (importSheet phys phy carried sheet) t ≡ out (answer v) bs → carried ≤ 127)
 
--- on a phy that is not participating the byte carried for SMP decides nothing, whatever it is
+-- on a phy that is not participating the byte carried for SMP, or for an import, decides nothing, whatever it is
 abbrev pub CarriedUnread : Type 0
 CarriedUnread =
-    (w : ℕ) (phys t : List ℕ) (phy carried other : ℕ) (changes : Changes) (request response set : List ℕ) → participating phys phy ≡ false
-    → outcomeOf w (smp phys phy carried changes request response set) t ≡ outcomeOf w (smp phys phy other changes request response set) t
+    ((w : ℕ) (phys t : List ℕ) (phy carried other : ℕ) (changes : Changes) (request response set : List ℕ) → participating phys phy ≡ false
+    → outcomeOf w (smp phys phy carried changes request response set) t ≡ outcomeOf w (smp phys phy other changes request response set) t)
+    × ((w : ℕ) (phys t : List ℕ) (phy carried other : ℕ) (sheet : List ℕ) → participating phys phy ≡ false
+    → outcomeOf w (importSheet phys phy carried sheet) t ≡ outcomeOf w (importSheet phys phy other sheet) t)
 
 -- "Such a route record is skipped in searches and in the election.": the tables give what they give without it
 abbrev pub Skipped : Type 0

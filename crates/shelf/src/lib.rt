@@ -25,3 +25,9 @@ pub use broadcasts::primitive;
 // An SMP request arrives.
 pub use smp::Answered;
 pub use smp::smp;
+
+// A sheet of orders is imported; the permission table is exported as one.
+pub use exports::Exported;
+pub use exports::export_sheet;
+pub use imports::Imported;
+pub use imports::import_sheet;

@@ -10,10 +10,14 @@ ghost use Rattle.links.specs.Links.{linkedAs, startUpOut};
 ghost use Rattle.opens.specs.Open.{openedAs, openOut};
 ghost use Rattle.broadcasts.specs.Broadcasts.{toldAs, primitiveOut, broadcastOut};
 ghost use Rattle.smp.specs.Smp.{answeredAs, smpOut};
+ghost use Rattle.imports.specs.Import.{importedAs, importOut};
+ghost use Rattle.exports.specs.Export.{exportedAs, exportOut};
 
 // The answers.
 pub use broadcasts::Told;
 pub use election::Elected;
+pub use exports::Exported;
+pub use imports::Imported;
 pub use links::Linked;
 pub use opens::Opened;
 pub use smp::Answered;
@@ -98,4 +102,23 @@ pub fn smp(
         response,
         set,
     )
+}
+
+// A sheet of orders is imported; the permission table is exported as one.
+pub fn import_sheet(
+    phys: &[u8],
+    permissions: &mut [u8],
+    phy: PhyNumber,
+    carried: u8,
+    sheet: &[u8],
+) -> Imported
+    ensures { λ r. ⌜ out (importedAs r) (now (permissions .exit) ∷ []) ≡ importOut 1 (now (phys .entry)) (now (permissions .entry)) (phy .0) carried (now (sheet .entry)) ⌝ }
+{
+    imports::import_sheet_at(WIDTH, phys, permissions, phy, carried, sheet)
+}
+
+pub fn export_sheet(permissions: &[u8], sheet: &mut [u8]) -> Exported
+    ensures { λ r. ⌜ out (exportedAs r) (now (sheet .exit) ∷ []) ≡ exportOut 1 (now (permissions .entry)) (now (sheet .entry)) ⌝ }
+{
+    exports::export_sheet_at(WIDTH, permissions, sheet)
 }

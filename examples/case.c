@@ -1,5 +1,5 @@
 /* Cases 1 and 2 of the scope document on the bench rack with what a member's phy sees before and after, then a port of two phys, then the
- * group that is carried for SMP, then what a member learns of a neighbour's disk, through shelf.h. The output is in case.txt. */
+ * group that is carried for SMP, then what a member learns of a neighbour's disk, then sheets, through shelf.h. The output is in case.txt. */
 #include <shelf.h>
 
 #include <stdio.h>
@@ -158,6 +158,23 @@ static void ask_on_7(unsigned carried) {
     printf("\n");
 }
 
+/* A sheet of orders from phy 0, or what is wrong with its first line that fails. */
+static void import_from_0(const char *sheet) {
+    static const char *const why[] = {"all accepted", "bad text", "no such group", "no right"};
+    struct shelf_imported imported = shelf_import(phys, sizeof phys, permissions, sizeof permissions, 0, 0,
+                                                  (const uint8_t *)sheet, strlen(sheet));
+    printf("import from phy 0: refusal %u, %s %u, %s\n", imported.refusal, imported.cause ? "line" : "lines", imported.lines,
+           why[imported.cause]);
+}
+
+static void export_all(void) {
+    static uint8_t sheet[SHELF_SHEET_MOST];
+    struct shelf_exported exported = shelf_export(permissions, sizeof permissions, sheet, sizeof sheet);
+    printf("export: refusal %u, %u bytes\n", exported.refusal, exported.length);
+    for (uint32_t i = 0; i < exported.length; i++)
+        if (sheet[i] != '\r') putchar(sheet[i]);
+}
+
 int main(void) {
     const uint8_t byte_20 = 0x81; /* of the connection's OPEN: ACCESS ZONE MANAGEMENT, and group 1 */
     bench_rack();
@@ -180,5 +197,9 @@ int main(void) {
     bench_rack();
     printf("start-up: refusal %u\n", shelf_start_up(permissions, sizeof permissions));
     swap_a_hidden_disk();
+    import_from_0("8,9,1\r\n9,8,0\n127,2,1\r\n");
+    import_from_0("8,9,1\n09,9,1\n10,10,1\n");
+    import_from_0("9,9,1\n1000,9,1\n");
+    export_all();
     return 0;
 }

@@ -71,6 +71,21 @@ static void change_on(unsigned phy) {
     printf("\n");
 }
 
+/* A sheet of orders from phy 0. */
+static void import_from_0(const char *sheet) {
+    struct small_imported imported = small_import(phys, sizeof phys, permissions, sizeof permissions, 0, 0,
+                                                  (const uint8_t *)sheet, strlen(sheet));
+    printf("import from phy 0: refusal %u, lines %u, cause %u\n", imported.refusal, imported.lines, imported.cause);
+}
+
+static void export_all(void) {
+    static uint8_t sheet[SMALL_SHEET_MOST];
+    struct small_exported exported = small_export(permissions, sizeof permissions, sheet, sizeof sheet);
+    printf("export: refusal %u, %u bytes\n", exported.refusal, exported.length);
+    for (uint32_t i = 0; i < exported.length; i++)
+        if (sheet[i] != '\r') putchar(sheet[i]);
+}
+
 int main(void) {
     static uint8_t large[2048];
     rack();
@@ -89,5 +104,8 @@ int main(void) {
     change_on(3);
     report_from(1);
     report_from(7);
+    import_from_0("7,7,1\r\n2,3,0\r\n3,4,1\r\n");
+    import_from_0("4,5,1\n7,8,1\n");
+    export_all();
     return 0;
 }

@@ -43,6 +43,12 @@ extern "C" {
 /* shelf_open's outcome */
 enum { SHELF_NO_DESTINATION = 1, SHELF_BAD_DESTINATION = 2, SHELF_ZONE_VIOLATION = 3, SHELF_FORWARD = 4 };
 
+/* shelf_import's cause: why a line of a sheet failed */
+enum { SHELF_BAD_TEXT = 1, SHELF_NO_SUCH_GROUP = 2, SHELF_NO_RIGHT = 3 };
+
+/* the most bytes that a sheet may have, and the room that shelf_export asks for */
+enum { SHELF_SHEET_MOST = 88011 };
+
 struct shelf_elected {
     uint32_t refusal;
     uint32_t priority; /* 0 where there is no candidate */
@@ -65,6 +71,17 @@ struct shelf_answered {
     uint32_t result; /* the response's byte 2 */
     uint32_t length; /* how many bytes of the response were written */
     uint32_t count;  /* how many phys the set holds */
+};
+
+struct shelf_imported {
+    uint32_t refusal;
+    uint32_t lines; /* how many lines the sheet has, where cause is 0; else the number of the line that failed, from 1 */
+    uint32_t cause; /* 0 where every line was accepted; else 1 to 3 */
+};
+
+struct shelf_exported {
+    uint32_t refusal;
+    uint32_t length; /* how many bytes of the sheet were written */
 };
 
 /* Start-up. Refusals: 1. Writes all of permissions. */
@@ -114,6 +131,20 @@ struct shelf_told shelf_broadcast_frame(const uint8_t *phys, size_t phys_len, co
 struct shelf_answered shelf_smp(uint8_t *phys, size_t phys_len, uint8_t *permissions, size_t permissions_len, uint32_t phy,
                                 uint32_t carried, uint32_t expander_changes, uint32_t phy_changes, const uint8_t *request,
                                 size_t request_len, uint8_t *response, size_t response_len, uint8_t *set, size_t set_len);
+
+/* A sheet of orders is read, in the order of its lines. A line is group, group and 1 (on) or 0 (off), in decimal without leading zeros,
+ * separated by commas and ended by CR LF or LF: "8,9,1". A sheet is such lines and nothing else; one without a byte has none. Each line is
+ * one single order (C1h) without UPDATE COMPLETE from phy, where carried is as for shelf_smp. Refusals: 1, 2, 3 (sheet_len over 88,011), 7, 5
+ * (carried: on a participating phy above 127, then over 255 on any phy).
+ * The first line that fails ends the import: cause is SHELF_BAD_TEXT (no such line, or no end of line), else SHELF_NO_SUCH_GROUP (a group below
+ * 2 or above 127), else SHELF_NO_RIGHT (the caller has not the right, by the table as the lines before left it). That is an answer and no
+ * refusal: the lines before it are done and stay. Writes permissions alone. */
+struct shelf_imported shelf_import(const uint8_t *phys, size_t phys_len, uint8_t *permissions, size_t permissions_len,
+                                   uint32_t phy, uint32_t carried, const uint8_t *sheet, size_t sheet_len);
+
+/* The permitted pairs as a sheet: a line a,b,1 with CR LF for every a <= b from 2 to 127 with permission on in row a, ascending by a and
+ * then b. Refusals: 1, 3 (sheet_len under 88,011, whatever the table holds). Writes the first length bytes of sheet, 74,549 at most. */
+struct shelf_exported shelf_export(const uint8_t *permissions, size_t permissions_len, uint8_t *sheet, size_t sheet_len);
 
 #ifdef __cplusplus
 }

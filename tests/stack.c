@@ -24,7 +24,8 @@ enum { PHYS = 128, ROUTES = 1024, RECORD = 16, ROUTE = 12, REPORT = 63, BATCH = 
 
 static uint8_t phys[PHYS * RECORD], routes[ROUTES * ROUTE], permissions[GROUPS * ROW];
 static uint8_t address[8], frame[28], out[28], set[16], request[12 + 16 * REPORT], response[1020];
-static size_t phys_len, permissions_len, frame_len, request_len;
+static uint8_t sheet[88012];
+static size_t phys_len, permissions_len, frame_len, request_len, sheet_len;
 static uint32_t phy, number, carried, device_type, attached_phy, expander_changes, phy_changes;
 
 static void start_up(void) {
@@ -72,6 +73,18 @@ static void smp(void) {
                                                      sizeof response, set, sizeof set);
     refusal = answer.refusal;
     done = answer.result;
+}
+
+static void import(void) {
+    struct NAMED(imported) answer = CALLEE(NAMED(import))(phys, phys_len, permissions, permissions_len, phy, carried, sheet, sheet_len);
+    refusal = answer.refusal;
+    done = 10 * answer.lines + answer.cause;
+}
+
+static void export(void) {
+    struct NAMED(exported) answer = CALLEE(NAMED(export))(permissions, permissions_len, sheet, sheet_len);
+    refusal = answer.refusal;
+    done = answer.length;
 }
 
 /* The largest tables. All phys are ready, participate and are of group 1, which reaches all groups; priorities and addresses
@@ -285,6 +298,53 @@ static void request_cut(void) {
     request_len = 3;
 }
 
+/* Every pair is permitted, and the sheet has a line for each: PAIRS lines, LONGEST bytes. */
+enum { PAIRS = (GROUPS - 2) * (GROUPS - 1) / 2, LONGEST = GROUPS == 8 ? 147 : 74549, SHEET_MOST = 88011 };
+
+static void all_on(void) {
+    memset(permissions, 0xff, sizeof permissions);
+    sheet_len = SHEET_MOST;
+}
+
+static void all_pairs(void) {
+    all_on();
+    sheet_len = NAMED(export)(permissions, permissions_len, sheet, sheet_len).length;
+    NAMED(start_up)(permissions, permissions_len);
+}
+
+static void long_number(void) {
+    memset(sheet, '9', sizeof sheet);
+    memcpy(sheet + SHEET_MOST - 6, ",2,1\r\n", 6);
+    sheet_len = SHEET_MOST;
+}
+
+static void bad_last_line(void) {
+    all_pairs();
+    sheet_len--;
+}
+
+static void sheet_without_right(void) {
+    all_pairs();
+    carried = 5;
+}
+
+static void sheet_too_long(void) {
+    sheet_len = SHEET_MOST + 1;
+}
+
+static void wide_carried(void) {
+    all_pairs();
+    carried = 256;
+}
+
+static void little_room(void) {
+    sheet_len = SHEET_MOST - 1;
+}
+
+static void nothing_on(void) {
+    sheet_len = SHEET_MOST;
+}
+
 #define TRIAL(call, ...) {SHELF #call, call, (code *)NAMED(call), __VA_ARGS__}
 
 static const struct trial trials[] = {
@@ -327,6 +387,16 @@ static const struct trial trials[] = {
     TRIAL(smp, other_function, 0, 0x01),
     TRIAL(smp, without_right, 0, 0x01),
     TRIAL(smp, request_cut, 4, 0),
+    TRIAL(import, all_pairs, 0, 10 * PAIRS),
+    TRIAL(import, bad_last_line, 0, 10 * PAIRS + 1),
+    TRIAL(import, long_number, 0, 10 * 1 + 2),
+    TRIAL(import, sheet_without_right, 0, 10 * 1 + 3),
+    TRIAL(import, sheet_too_long, 3, 0),
+    TRIAL(import, wide_carried, 5, 0),
+    TRIAL(export, all_on, 0, LONGEST),
+    TRIAL(export, nothing_on, 0, 0),
+    TRIAL(export, little_room, 3, 0),
+    TRIAL(export, permissions_cut, 1, 0),
 };
 
 int main(void) {

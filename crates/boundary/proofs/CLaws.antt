@@ -38,7 +38,7 @@ module _ (phys : List ℕ) (sizes room awaited : Bool) where
   beyond : (x : ℕ) → 255 ≤ x → Clear tables → phyCount phys ≤ x
   beyond x h k = let p = phys-records phys (not-false (physSized phys) (k .0)) in omega arith
 
-  arrival-far : (x : ℕ) → 255 ≤ x → (own : List Check) (values : List ℕ) (old new : List (List ℕ))
+  pub arrival-far : (x : ℕ) → 255 ≤ x → (own : List Check) (values : List ℕ) (old new : List (List ℕ))
       → outcome (firstRefusal (arrivalChecks phys x sizes room awaited ++ own)) values old new ≡ out (refusal (orElse (firstRefusal tables) 2)) old
   unfolding arrivalChecks
   arrival-far x h own values old new = stopped tables 1 (atMost (phyCount phys) x) (past x ++ own) tt (beyond x h) values old new

@@ -24,7 +24,7 @@ abbrev answeredOf : List ℕ → AnsweredC
 answeredOf fs = record { refusal = getD fs 0 0; result = getD fs 1 0; length = getD fs 2 0; count = getD fs 3 0 }
 
 module _ (o : Given) (bs cs : List (List ℕ)) where
-  one : (fs gs : List ℕ) → given fs bs ≡ o → given gs cs ≡ o → (fs ≡ gs) × (bs ≡ cs)
+  pub one : (fs gs : List ℕ) → given fs bs ≡ o → given gs cs ≡ o → (fs ≡ gs) × (bs ≡ cs)
   one fs gs p q = let e : given fs bs ≡ given gs cs = p ∙ sym q in (cc, cc)
 
   pub number-unique : (r s : ℕ) → given (r ∷ []) bs ≡ o → given (s ∷ []) cs ≡ o → (r ≡ s) × (bs ≡ cs)

@@ -69,7 +69,7 @@ pub fn phy_of(n: u32) -> PhyNumber
 }
 
 // The refusal `no`, or where it is 0 the boundary's own.
-fn or_else(no: u8, own: u8) -> u8
+pub fn or_else(no: u8, own: u8) -> u8
     ensures { λ r. ⌜ r ≡ orElse no own ⌝ }
 {
     if no != 0 {

@@ -3,13 +3,17 @@ use boundary::AnsweredC;
 use boundary::ElectedC;
 use boundary::OpenedC;
 use boundary::ToldC;
+use boundary_sheets::ExportedC;
+use boundary_sheets::ImportedC;
 ghost use mathlib.Core.Path.{_≡_};
 ghost use mathlib.Core.List.{[], _∷_};
 ghost use Rattle.links.specs.Links.{startUpOut, leavingOut};
 ghost use Rattle.election.specs.Election.{electOut};
 ghost use Rattle.opens.specs.Open.{openOut};
 ghost use Rattle.broadcasts.specs.Broadcasts.{primitiveOut, broadcastOut};
+ghost use Rattle.exports.specs.Export.{exportOut};
 ghost use Rattle.boundary.specs.C.{given, inC, electedFields, openedFields, toldFields, answeredFields, identifyOutC, counted, smpOutC};
+ghost use Rattle.boundary_sheets.specs.SheetsC.{importedFields, exportedFields, importOutC};
 
 #[no_mangle]
 pub extern "C" fn shelf_start_up(permissions: &mut [u8]) -> u32
@@ -113,4 +117,24 @@ pub extern "C" fn shelf_smp(
         response,
         set,
     )
+}
+
+#[no_mangle]
+pub extern "C" fn shelf_import(
+    phys: &[u8],
+    permissions: &mut [u8],
+    phy: u32,
+    carried: u32,
+    sheet: &[u8],
+) -> ImportedC
+    ensures { λ r. ⌜ given (importedFields r) (now (permissions .exit) ∷ []) ≡ inC 2 (importOutC 16 (now (phys .entry)) (now (permissions .entry)) phy carried (now (sheet .entry))) ⌝ }
+{
+    boundary_sheets::import_c(16, phys, permissions, phy, carried, sheet)
+}
+
+#[no_mangle]
+pub extern "C" fn shelf_export(permissions: &[u8], sheet: &mut [u8]) -> ExportedC
+    ensures { λ r. ⌜ given (exportedFields r) (now (sheet .exit) ∷ []) ≡ inC 1 (exportOut 16 (now (permissions .entry)) (now (sheet .entry))) ⌝ }
+{
+    boundary_sheets::export_c(16, permissions, sheet)
 }

@@ -1,0 +1,2 @@
+pub mod SheetsCLaws
+pub mod Unique

@@ -1,0 +1,2 @@
+pub mod SheetsC
+pub mod Promises

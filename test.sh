@@ -19,6 +19,7 @@ packages=()
 need() { command -v "$1" >/dev/null || packages+=("${@:2}"); }
 need cargo cargo
 need python3 python3
+need awk mawk
 need gcc gcc libc6-dev
 need x86_64-linux-gnu-readelf binutils-x86-64-linux-gnu
 [ "$(uname -m)" = x86_64 ] || packages+=(gcc-x86-64-linux-gnu libc6-dev-amd64-cross)
@@ -72,6 +73,9 @@ python3 tests/long_streams.py
 
 step "the wardens' program against a model of its lines"
 python3 tests/warden.py
+
+step "the regulator's program against Python's csv, and against a shelf's reports"
+python3 tests/orders.py
 
 step 'the bench program against the second program'
 second/target/release/streams "$bench"

@@ -1,0 +1,23 @@
+-- `orders_text::put_no_right` meets its contract.
+-- Assumes nothing.
+use Rattle.orders_text.specs.OrdersText.{rightWords}
+use borrow.Author.Needs.{needs}
+use Rattle.orders_text.proofs.put_no_right.Statement.{statement}
+use Rattle.orders_text.proofs.put_no_right.Tie as tie
+
+slice-aggregate-put-bytes : tie.Need-slice-aggregate-put-bytes
+slice-aggregate-put-bytes c = search needs
+
+put-bytes-requires : tie.Need-put-bytes-requires
+put-bytes-requires c κs = search needs
+
+same-length : tie.Need-same-length
+same-length c = search needs
+
+returns : tie.Need-returns
+unfolding rightWords
+returns c = c .before .before .put-bytes .ensures
+
+pub put-no-right-spec : {M : Type 1} → statement M
+put-no-right-spec =
+    tie.close (tie.spec slice-aggregate-put-bytes put-bytes-requires same-length returns)

@@ -33,6 +33,8 @@ static const struct shape shapes[] = {
     {2, 4, 0x0c}, /* primitive */
     {1, 5, 0x18}, /* broadcast_frame */
     {4, 5, 0x1b}, /* smp */
+    {2, 3, 0x02}, /* import */
+    {0, 2, 0x02}, /* export */
     {1, 2, 0x01}, /* console_phy_zones */
     {4, 1, 0x01}, /* console_single */
     {2, 2, 0x01}, /* console_batch */
@@ -125,6 +127,17 @@ static void answered(struct NAMED(answered) answer) {
     field[3] = answer.count;
 }
 
+static void imported(struct NAMED(imported) answer) {
+    field[0] = answer.refusal;
+    field[1] = answer.lines;
+    field[2] = answer.cause;
+}
+
+static void exported(struct NAMED(exported) answer) {
+    field[0] = answer.refusal;
+    field[1] = answer.length;
+}
+
 static void built(struct console_built answer) {
     field[0] = answer.refusal;
     field[1] = answer.length;
@@ -154,11 +167,13 @@ static void make_call(int which) {
         answered(NAMED(smp)(b[0], len[0], b[1], len[1], n[0], n[1], n[2], n[3], b[2], len[2], b[3], len[3], b[4],
                             len[4]));
         break;
-    case 8: built(console_phy_zones(b[0], len[0], n[0], b[1], len[1])); break;
-    case 9: built(console_single(b[0], len[0], n[0], n[1], n[2], n[3])); break;
-    case 10: built(console_batch(b[0], len[0], n[0], b[1], len[1], n[1])); break;
-    case 11: built(console_report(b[0], len[0], n[0], n[1])); break;
-    case 12: heard(console_read(b[0], len[0], b[1], len[1])); break;
+    case 8: imported(NAMED(import)(b[0], len[0], b[1], len[1], n[0], n[1], b[2], len[2])); break;
+    case 9: exported(NAMED(export)(b[0], len[0], b[1], len[1])); break;
+    case 10: built(console_phy_zones(b[0], len[0], n[0], b[1], len[1])); break;
+    case 11: built(console_single(b[0], len[0], n[0], n[1], n[2], n[3])); break;
+    case 12: built(console_batch(b[0], len[0], n[0], b[1], len[1], n[1])); break;
+    case 13: built(console_report(b[0], len[0], n[0], n[1])); break;
+    case 14: heard(console_read(b[0], len[0], b[1], len[1])); break;
     }
 }
 

@@ -10,6 +10,7 @@ mod console;
 mod discover;
 mod outside;
 mod ports;
+mod sheets;
 mod small;
 
 const CASE_1: [u8; 12] = [0x40, 0xc1, 0, 2, 0, 0, 0x08, 0x89, 0, 0x81, 0, 0];

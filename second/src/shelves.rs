@@ -9,8 +9,8 @@ macro_rules! shelf {
     ($shelf:ident, $width:ident) => {
         pub mod $shelf {
             use super::$width;
-            use crate::{broadcast, chains, open, permission, smp};
-            use crate::{Answered, Opened, Told};
+            use crate::{broadcast, bytewise, chains, open, permission, sheets, smp};
+            use crate::{Answered, Exported, Imported, Opened, Told};
 
             pub use crate::links::{elect, identify, leaving};
 
@@ -76,6 +76,14 @@ macro_rules! shelf {
                 )
             }
 
+            pub fn import(phys: &[u8], permissions: &mut [u8], phy: u32, carried: u32, sheet: &[u8]) -> Imported {
+                sheets::import::<$width>(phys, permissions, phy, carried, sheet)
+            }
+
+            pub fn export(permissions: &[u8], sheet: &mut [u8]) -> Exported {
+                sheets::export::<$width>(permissions, sheet)
+            }
+
             /// Another way to the same answer, for timing only.
             pub fn primitive_by_chains(
                 phys: &[u8],
@@ -98,6 +106,22 @@ macro_rules! shelf {
                 out: &mut [u8],
             ) -> Told {
                 chains::broadcast_frame::<$width>(phys, permissions, phy, frame, set, out)
+            }
+
+            /// Another way to the same answer, for timing only.
+            pub fn import_by_bytes(
+                phys: &[u8],
+                permissions: &mut [u8],
+                phy: u32,
+                carried: u32,
+                sheet: &[u8],
+            ) -> Imported {
+                bytewise::import::<$width>(phys, permissions, phy, carried, sheet)
+            }
+
+            /// Another way to the same answer, for timing only.
+            pub fn export_by_bytes(permissions: &[u8], sheet: &mut [u8]) -> Exported {
+                bytewise::export::<$width>(permissions, sheet)
             }
         }
     };

@@ -5,7 +5,8 @@
 //! PROFILE is large, for include/shelf.h, or small, for include/small.h. Calls of include/console.h are among both.
 //!
 //! Some calls come in pairs, on two shelves: where request 04 says so, the library must give both the same bytes. Others are
-//! steps of a round trip from the console to a shelf and back, of which request 06 says what the library must give.
+//! steps of a round trip from the console to a shelf and back, of which request 06 says what the library must give, or calls
+//! of sheets, of which request 07 does.
 //!
 //! Exits with 0 where the two agreed on every field and every byte, and every class of answers was reached.
 
@@ -15,6 +16,7 @@ use second::trial::console::trips::Trip;
 use second::trial::coverage::Coverage;
 use second::trial::generate::{Generator, Together};
 use second::trial::profile::Profile;
+use second::trial::sheets::trips::Trip as SheetTrip;
 use std::io::{BufReader, Read, Write};
 use std::process::{Child, ChildStdin, Command, ExitCode, Stdio};
 use std::sync::mpsc::{sync_channel, Receiver, SyncSender};
@@ -243,21 +245,24 @@ fn judge_together(
         }
         (Together::Trip, ..) => {
             let trip = Trip { calls, answers: answers.iter().collect() };
-            compare_trip(profile, &trip)?;
+            trip.judge(profile).map_err(|why| complaint("a round trip", why, &trip.calls, &trip.answers))?;
             coverage.count_trip(&trip);
+        }
+        (Together::Sheets, ..) => {
+            let trip = SheetTrip { calls, answers: answers.iter().collect() };
+            trip.judge(profile).map_err(|why| complaint("sheets", why, &trip.calls, &trip.answers))?;
+            coverage.count_sheets(&trip);
         }
         _ => {}
     }
     Ok(())
 }
 
-/// The library's answers on a round trip, where they are not what request 06 says.
-fn compare_trip(profile: Profile, trip: &Trip) -> Result<(), String> {
-    trip.judge(profile).map_err(|why| {
-        let steps = trip.calls.iter().zip(&trip.answers);
-        let steps = steps.map(|(call, answer)| format!("{}  fields: {:x?}\n", told(call), answer.fields));
-        format!("the two disagree: a round trip, {why}\n{}", steps.collect::<String>())
-    })
+/// The library's answers to calls that follow one another, where they are not what request 06 or 07 says.
+fn complaint(kind: &str, why: &str, calls: &[&Call], answers: &[&Answer]) -> String {
+    let steps = calls.iter().zip(answers);
+    let steps = steps.map(|(call, answer)| format!("{}  fields: {:x?}\n", told(call), answer.fields));
+    format!("the two disagree: {kind}, {why}\n{}", steps.collect::<String>())
 }
 
 /// The library's answers to two calls, where request 04 says that they are the same.

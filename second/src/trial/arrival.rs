@@ -22,7 +22,8 @@ impl Arrival<'_> {
             Call::Open { phys, permissions, phy, .. }
             | Call::Primitive { phys, permissions, phy, .. }
             | Call::BroadcastFrame { phys, permissions, phy, .. }
-            | Call::Smp { phys, permissions, phy, .. } => (phys, permissions, *phy as usize),
+            | Call::Smp { phys, permissions, phy, .. }
+            | Call::Import { phys, permissions, phy, .. } => (phys, permissions, *phy as usize),
             _ => return None,
         };
         let phys: &[Record] = phys.as_chunks().0;
@@ -30,7 +31,9 @@ impl Arrival<'_> {
         let source = match call {
             Call::Open { frame, .. } => source_of_open(&arriving, frame[20]),
             Call::BroadcastFrame { frame, .. } => source_from_outside(&arriving, frame[3]).ok()?,
-            Call::Smp { carried, .. } => source_from_outside(&arriving, *carried as u8).ok()?,
+            Call::Smp { carried, .. } | Call::Import { carried, .. } => {
+                source_from_outside(&arriving, *carried as u8).ok()?
+            }
             _ => arriving.group,
         };
         Some(Arrival { profile, phys, permissions, phy, source })

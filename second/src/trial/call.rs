@@ -14,6 +14,7 @@ use crate::broadcast::{broadcast_frame, primitive};
 use crate::links::{elect, identify, leaving};
 use crate::open::open;
 use crate::permission::start_up;
+use crate::sheets::{export, import};
 use crate::smp::smp;
 use crate::tables::{LARGE, SMALL};
 
@@ -72,6 +73,17 @@ pub enum Call {
         response: Vec<u8>,
         set: Vec<u8>,
     },
+    Import {
+        phys: Vec<u8>,
+        permissions: Vec<u8>,
+        phy: u32,
+        carried: u32,
+        sheet: Vec<u8>,
+    },
+    Export {
+        permissions: Vec<u8>,
+        sheet: Vec<u8>,
+    },
     Console(Console),
 }
 
@@ -108,7 +120,7 @@ pub struct Parts<'a> {
     pub buffers: Vec<(&'static str, &'a [u8])>,
 }
 
-pub const NAMES: [&str; 13] = [
+pub const NAMES: [&str; 15] = [
     "start_up",
     "leaving",
     "identify",
@@ -117,6 +129,8 @@ pub const NAMES: [&str; 13] = [
     "primitive",
     "broadcast_frame",
     "smp",
+    "import",
+    "export",
     "console_phy_zones",
     "console_single",
     "console_batch",
@@ -166,6 +180,12 @@ impl Call {
                     ("set", set),
                 ],
             ),
+            Call::Import { phys, permissions, phy, carried, sheet } => (
+                8,
+                vec![("phy", *phy), ("carried", *carried)],
+                vec![("phys", phys), ("permissions", permissions), ("sheet", sheet)],
+            ),
+            Call::Export { permissions, sheet } => (9, vec![], vec![("permissions", permissions), ("sheet", sheet)]),
             Call::Console(call) => call.parts(),
         };
         let buffers = buffers.into_iter().map(|(name, bytes)| (name, bytes.as_slice())).collect();
@@ -247,6 +267,14 @@ impl Call {
                 );
                 let fields = [answer.refusal, answer.result, answer.length, answer.count].map(u64::from);
                 Answer::new(&fields, vec![phys, permissions, response, set])
+            }
+            Call::Import { phys, mut permissions, phy, carried, sheet } => {
+                let imported = import::<WIDTH>(&phys, &mut permissions, phy, carried, &sheet);
+                Answer::new(&[imported.refusal, imported.lines, imported.cause].map(u64::from), vec![permissions])
+            }
+            Call::Export { permissions, mut sheet } => {
+                let exported = export::<WIDTH>(&permissions, &mut sheet);
+                Answer::new(&[exported.refusal, exported.length].map(u64::from), vec![sheet])
             }
             Call::Console(call) => call.model(),
         }

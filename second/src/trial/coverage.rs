@@ -4,6 +4,7 @@ use super::arrival::{that_apply, Arrival, Classes};
 use super::call::{Answer, Call, NAMES};
 use super::console::{self, trips::Trip};
 use super::profile::Profile;
+use super::sheets::{self, trips::Trip as SheetTrip};
 use super::{alike, apart, discover, outside, ports, small};
 use crate::smp::{CONFIGURE_PHY_ZONE, CONFIGURE_ZONE_PERMISSION, DISCOVER, REPORT_ZONE_PERMISSION};
 use crate::speaking::source_from_outside;
@@ -12,7 +13,7 @@ use std::collections::BTreeMap;
 use std::fmt;
 
 /// All classes that a run must reach on either shelf, by call. Refusal 8 has none: nothing provokes it.
-const REQUIRED: [(&str, &[&str]); 17] = [
+const REQUIRED: [(&str, &[&str]); 19] = [
     ("start_up", &["written", "refused 1"]),
     ("leaving", &["left", "refused 1", "refused 2", "refused 7"]),
     (
@@ -121,6 +122,8 @@ const REQUIRED: [(&str, &[&str]); 17] = [
     ("primitive", &WRONG_SIZE),
     ("broadcast_frame", &WRONG_SIZE),
     ("smp", &WRONG_SIZE),
+    ("import", &WRONG_SIZE),
+    ("export", &WRONG_SIZE),
 ];
 
 /// Of refusal 1, where the size of the permission table is its only cause.
@@ -156,6 +159,12 @@ impl Coverage {
         self.count_all(place, trip.classes(self.profile));
     }
 
+    /// So do calls of sheets.
+    pub fn count_sheets(&mut self, trip: &SheetTrip) {
+        let place = usize::from(trip.calls[0].parts().place);
+        self.count_all(place, trip.classes(self.profile));
+    }
+
     fn count_all(&mut self, place: usize, classes: Classes) {
         for class in classes {
             *self.answers.entry((place, class)).or_default() += 1;
@@ -166,17 +175,23 @@ impl Coverage {
     pub fn missing(&self) -> Vec<String> {
         let place = |name| NAMES.iter().position(|known| *known == name).expect("a call's name");
         type Required = &'static [(&'static str, &'static [&'static str])];
-        let of_both: [Required; 6] = [
+        let of_both: [Required; 7] = [
             &REQUIRED,
             &outside::REQUIRED,
             &discover::REQUIRED,
             &alike::REQUIRED,
             &apart::REQUIRED,
             &console::classes::REQUIRED,
+            &sheets::classes::REQUIRED,
         ];
         let of_one: &[Required] = match self.profile {
-            Profile::Large => &[&console::classes::REQUIRED_OF_LARGE],
-            Profile::Small => &[&small::REQUIRED, &alike::REQUIRED_OF_SMALL, &console::classes::REQUIRED_OF_SMALL],
+            Profile::Large => &[&console::classes::REQUIRED_OF_LARGE, &sheets::classes::REQUIRED_OF_LARGE],
+            Profile::Small => &[
+                &small::REQUIRED,
+                &alike::REQUIRED_OF_SMALL,
+                &console::classes::REQUIRED_OF_SMALL,
+                &sheets::classes::REQUIRED_OF_SMALL,
+            ],
         };
         let all = of_both
             .iter()
@@ -211,6 +226,7 @@ fn classes(profile: Profile, call: &Call, answer: &Answer) -> Classes {
     }
     classes.extend(outside::classes(profile, call, answer));
     classes.extend(discover::classes(profile, call, answer));
+    classes.extend(sheets::classes::classes(profile, call, answer));
     classes
 }
 
@@ -257,6 +273,8 @@ fn refused_5(call: &Call) -> &'static str {
             }
         }
         Call::Identify { address, .. } if *address != [0; 8] => "refused 5, a number too wide",
+        Call::Import { carried, .. } if *carried > 255 => "refused 5, no byte",
+        Call::Import { .. } => "refused 5, no group",
         Call::BroadcastFrame { frame, .. } if matches!(frame[0] & 0x0f, 2 | 3) => "refused 5, no group",
         _ => "refused 5",
     }
@@ -278,6 +296,8 @@ fn answered(profile: Profile, call: &Call, answer: &Answer) -> &'static str {
             let right = Arrival::of(profile, call).is_some_and(|arrival| arrival.may_change_zoning());
             by_function(request, answer, right)
         }
+        Call::Import { .. } => sheets::classes::imported(answer),
+        Call::Export { .. } => sheets::classes::how_many_exported(profile, answer),
         Call::Console(_) => "the console's",
     }
 }
@@ -439,7 +459,7 @@ mod tests {
         for profile in Profile::ALL {
             let mut generator = Generator::new(profile, 1);
             let mut coverage = Coverage::new(profile);
-            for _ in 0..80_000 {
+            for _ in 0..200_000 {
                 let Tried { calls, together } = generator.tried();
                 calls.iter().for_each(|(call, answer)| coverage.count(call, answer));
                 match (together, calls.as_slice()) {
@@ -451,6 +471,12 @@ mod tests {
                         let trip = Trip { calls, answers };
                         assert_eq!(trip.judge(profile), Ok(()), "{profile}: {:x?}", trip.calls);
                         coverage.count_trip(&trip);
+                    }
+                    (Together::Sheets, calls) => {
+                        let (calls, answers) = calls.iter().map(|(call, answer)| (call, answer)).unzip();
+                        let trip = SheetTrip { calls, answers };
+                        assert_eq!(trip.judge(profile), Ok(()), "{profile}: {:x?}", trip.calls);
+                        coverage.count_sheets(&trip);
                     }
                     _ => {}
                 }

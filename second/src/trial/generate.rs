@@ -6,14 +6,17 @@ use super::pairs::pair;
 use super::profile::Profile;
 use super::random::Random;
 use super::requests::{broadcast_frame, damage_frame, open_frame};
+use super::sheets;
 use super::shelf::Shelf;
+use crate::sheets::MOST;
 use crate::tables::RECORD;
 
-/// Of so many calls how many have a second one beside them, how many begin a round trip, and how many others are the
-/// console's.
+/// Of so many calls how many have a second one beside them, how many begin a round trip, how many begin calls of sheets that
+/// are judged together, and how many others are the console's.
 const OF: usize = 200;
 const PAIRS: usize = 6;
 const TRIPS: usize = 4;
+const SHEETS: usize = 3;
 const CONSOLE: usize = 8;
 
 /// Calls that were made up together, with the model's answers.
@@ -28,6 +31,7 @@ pub enum Together {
     Alone,
     Pair,
     Trip,
+    Sheets,
 }
 
 pub struct Generator {
@@ -65,7 +69,7 @@ impl Generator {
             self.left = self.random.between(1, 60);
         }
         self.left -= 1;
-        let mut call = match self.random.below(44) {
+        let mut call = match self.random.below(50) {
             0 => self.start_up(),
             1..=3 => self.leaving(),
             4..=7 => self.identify(),
@@ -73,6 +77,7 @@ impl Generator {
             10..=18 => self.open(),
             19..=22 => self.primitive(),
             23..=27 => self.broadcast_frame(),
+            28..=33 => self.sheet(),
             _ => self.smp(),
         };
         self.damage(&mut call);
@@ -92,7 +97,9 @@ impl Generator {
             Tried { calls, together: Together::Pair }
         } else if drawn < PAIRS + TRIPS {
             Tried { calls: trips::trip(&mut self.random, &mut self.shelf), together: Together::Trip }
-        } else if drawn < PAIRS + TRIPS + CONSOLE {
+        } else if drawn < PAIRS + TRIPS + SHEETS {
+            Tried { calls: sheets::trips::trip(&mut self.random, &mut self.shelf), together: Together::Sheets }
+        } else if drawn < PAIRS + TRIPS + SHEETS + CONSOLE {
             alone(Call::Console(choices::call(&mut self.random, profile)))
         } else {
             let tried = alone(self.call());
@@ -107,7 +114,9 @@ impl Generator {
             return;
         }
         match (call, after.buffers.as_slice()) {
-            (Call::StartUp { .. }, [permissions]) => self.shelf.permissions.clone_from(permissions),
+            (Call::StartUp { .. } | Call::Import { .. }, [permissions]) => {
+                self.shelf.permissions.clone_from(permissions);
+            }
             (Call::Leaving { .. } | Call::Identify { .. }, [phys]) => self.shelf.phys.clone_from(phys),
             (Call::Smp { .. }, [phys, permissions, ..]) => {
                 self.shelf.phys.clone_from(phys);
@@ -202,6 +211,15 @@ impl Generator {
         self.asking(asks)
     }
 
+    /// Exports are few: each has room for the longest.
+    fn sheet(&mut self) -> Call {
+        if self.random.percent(5) {
+            sheets::export(&mut self.random, &self.shelf)
+        } else {
+            sheets::import(&mut self.random, &self.shelf)
+        }
+    }
+
     /// One DISCOVER on two shelves: on this one, which stays as it is, and on another. A few have no room or a number
     /// that does not fit.
     pub fn pair(&mut self) -> [Call; 2] {
@@ -257,8 +275,14 @@ impl Generator {
         };
         for _ in 0..times {
             let all = [Damage::Sizes, Damage::Phy, Damage::Room, Damage::Readiness, Damage::Number];
-            // Start-up has nothing but its size that could be wrong.
-            let damage = if let Call::StartUp { .. } = call { Damage::Sizes } else { self.random.pick(&all) };
+            let damage = match call {
+                // Start-up has nothing but its size that could be wrong, and an export its room as well.
+                Call::StartUp { .. } => Damage::Sizes,
+                Call::Export { .. } => self.random.pick(&[Damage::Sizes, Damage::Room]),
+                // A sheet that is too long takes its time.
+                Call::Import { .. } if self.random.percent(50) => Damage::Number,
+                _ => self.random.pick(&all),
+            };
             damage_once(&mut self.random, self.shelf.profile, call, damage);
         }
     }
@@ -291,7 +315,7 @@ fn damage_size(random: &mut Random, profile: Profile, call: &mut Call) {
         Profile::Small => PERMISSION_SIZES_OF_SMALL,
     };
     let mut tables: Vec<(&mut Vec<u8>, &[usize])> = match call {
-        Call::StartUp { permissions } => vec![(permissions, &permission_sizes)],
+        Call::StartUp { permissions } | Call::Export { permissions, .. } => vec![(permissions, &permission_sizes)],
         Call::Leaving { phys, .. } | Call::Identify { phys, .. } => vec![(phys, &PHY_SIZES)],
         Call::Elect { phys, routes } => vec![(phys, &PHY_SIZES), (routes, &ROUTE_SIZES)],
         Call::Open { phys, routes, permissions, .. } => {
@@ -299,7 +323,8 @@ fn damage_size(random: &mut Random, profile: Profile, call: &mut Call) {
         }
         Call::Primitive { phys, permissions, .. }
         | Call::BroadcastFrame { phys, permissions, .. }
-        | Call::Smp { phys, permissions, .. } => vec![(phys, &PHY_SIZES), (permissions, &permission_sizes)],
+        | Call::Smp { phys, permissions, .. }
+        | Call::Import { phys, permissions, .. } => vec![(phys, &PHY_SIZES), (permissions, &permission_sizes)],
         Call::Console(_) => return,
     };
     let which = random.below(tables.len());
@@ -323,13 +348,14 @@ const PERMISSION_SIZES_OF_SMALL: [usize; 9] = [0, 7, 9, 16, 256, 264, 2048, 2048
 
 fn damage_phy(random: &mut Random, call: &mut Call) {
     let (phys, phy) = match call {
-        Call::StartUp { .. } | Call::Elect { .. } | Call::Console(_) => return,
+        Call::StartUp { .. } | Call::Elect { .. } | Call::Export { .. } | Call::Console(_) => return,
         Call::Leaving { phys, phy }
         | Call::Identify { phys, phy, .. }
         | Call::Open { phys, phy, .. }
         | Call::Primitive { phys, phy, .. }
         | Call::BroadcastFrame { phys, phy, .. }
-        | Call::Smp { phys, phy, .. } => (phys, phy),
+        | Call::Smp { phys, phy, .. }
+        | Call::Import { phys, phy, .. } => (phys, phy),
     };
     let count = (phys.len() / RECORD) as u32;
     let [cut_to_8, cut_to_16] = right_where_cut(*phy);
@@ -358,6 +384,12 @@ fn damage_room(random: &mut Random, call: &mut Call) {
                 (response, 1020)
             }
         }
+        Call::Import { sheet, .. } => return sheets::lines::lengthen(random, sheet),
+        Call::Export { sheet, .. } => {
+            // Room for the longest export of either shelf is not room enough.
+            let size = random.pick(&[0, 147, 74_549, MOST - 1, MOST - 1, MOST - 1, MOST]);
+            return sheet.truncate(size);
+        }
         _ => return,
     };
     let size = random.pick(&[0, 1, needed - 1, needed - 1, needed]);
@@ -367,18 +399,25 @@ fn damage_room(random: &mut Random, call: &mut Call) {
 /// The arriving phy becomes ready where it was not, and the other way round.
 fn damage_readiness(call: &mut Call) {
     match call {
-        Call::StartUp { .. } | Call::Elect { .. } | Call::Console(_) => {}
+        Call::StartUp { .. } | Call::Elect { .. } | Call::Export { .. } | Call::Console(_) => {}
         Call::Leaving { phys, phy }
         | Call::Identify { phys, phy, .. }
         | Call::Open { phys, phy, .. }
         | Call::Primitive { phys, phy, .. }
         | Call::BroadcastFrame { phys, phy, .. }
-        | Call::Smp { phys, phy, .. } => {
+        | Call::Smp { phys, phy, .. }
+        | Call::Import { phys, phy, .. } => {
             if let Some(record) = phys.as_chunks_mut::<RECORD>().0.get_mut(*phy as usize) {
                 record[2] ^= 1;
             }
         }
     }
+}
+
+/// What is no group, and mostly no byte.
+fn no_carried_byte(random: &mut Random, carried: u32) -> u32 {
+    let [cut_to_8, cut_to_16] = right_where_cut(carried);
+    random.pick(&[256, 255, 128, cut_to_8, cut_to_16, 1 << 31, u32::MAX])
 }
 
 fn damage_number(random: &mut Random, call: &mut Call) {
@@ -390,11 +429,9 @@ fn damage_number(random: &mut Random, call: &mut Call) {
         Call::Smp { carried, expander_changes, phy_changes, .. } => match random.below(4) {
             0 => *expander_changes = too_wide(random, 65_536),
             1 => *phy_changes = too_wide(random, 256),
-            _ => {
-                let [cut_to_8, cut_to_16] = right_where_cut(*carried);
-                *carried = random.pick(&[256, 255, 128, cut_to_8, cut_to_16, 1 << 31, u32::MAX]);
-            }
+            _ => *carried = no_carried_byte(random, *carried),
         },
+        Call::Import { carried, .. } => *carried = no_carried_byte(random, *carried),
         Call::Open { frame, .. } | Call::BroadcastFrame { frame, .. } => damage_frame(random, frame),
         Call::Identify { address, device_type, attached_phy, .. } => match random.below(6) {
             0 => *device_type = too_wide(random, 256),

@@ -15,5 +15,6 @@ pub mod ports;
 pub mod profile;
 pub mod random;
 pub mod requests;
+pub mod sheets;
 pub mod shelf;
 pub mod small;

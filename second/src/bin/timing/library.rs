@@ -148,6 +148,19 @@ mod c {
         pub length: u32,
         pub count: u32,
     }
+
+    #[repr(C)]
+    pub struct Imported {
+        pub refusal: u32,
+        pub lines: u32,
+        pub cause: u32,
+    }
+
+    #[repr(C)]
+    pub struct Exported {
+        pub refusal: u32,
+        pub length: u32,
+    }
 }
 
 /// A shelf's calls that take a permission table. Their names in C start with the prefix.
@@ -155,7 +168,7 @@ macro_rules! shelf {
     ($shelf:ident, $prefix:literal) => {
         pub mod $shelf {
             use super::{c, In, Out};
-            use second::{Answered, Opened, Told};
+            use second::{Answered, Exported, Imported, Opened, Told};
 
             mod named {
                 use super::{c, In, Out};
@@ -221,6 +234,19 @@ macro_rules! shelf {
                         set: Out,
                         s: usize,
                     ) -> c::Answered;
+                    #[link_name = concat!($prefix, "import")]
+                    pub fn import(
+                        phys: In,
+                        n: usize,
+                        permissions: Out,
+                        m: usize,
+                        phy: u32,
+                        carried: u32,
+                        sheet: In,
+                        s: usize,
+                    ) -> c::Imported;
+                    #[link_name = concat!($prefix, "export")]
+                    pub fn export(permissions: In, n: usize, sheet: Out, s: usize) -> c::Exported;
                 }
             }
 
@@ -336,6 +362,29 @@ macro_rules! shelf {
                     )
                 };
                 Answered { refusal, result, length, count }
+            }
+
+            pub fn import(phys: &[u8], permissions: &mut [u8], phy: u32, carried: u32, sheet: &[u8]) -> Imported {
+                let c::Imported { refusal, lines, cause } = unsafe {
+                    named::import(
+                        phys.as_ptr(),
+                        phys.len(),
+                        permissions.as_mut_ptr(),
+                        permissions.len(),
+                        phy,
+                        carried,
+                        sheet.as_ptr(),
+                        sheet.len(),
+                    )
+                };
+                Imported { refusal, lines, cause }
+            }
+
+            pub fn export(permissions: &[u8], sheet: &mut [u8]) -> Exported {
+                let (n, s) = (permissions.len(), sheet.len());
+                let c::Exported { refusal, length } =
+                    unsafe { named::export(permissions.as_ptr(), n, sheet.as_mut_ptr(), s) };
+                Exported { refusal, length }
             }
         }
     };

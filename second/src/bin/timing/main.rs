@@ -5,10 +5,11 @@
 
 use second::chains::slot_of;
 use second::console::{self, Built, Heard, ROOM, ROWS_ROOM};
+use second::sheets::MOST;
 use second::tables::{GROUPS, RECORD, ROUTE};
 use second::trial::profile::Profile;
 use second::trial::random::Random;
-use second::{large, small, Answered, Elected, Opened, Told};
+use second::{large, small, Answered, Elected, Exported, Imported, Opened, Told};
 use std::hint::black_box;
 use std::time::Instant;
 
@@ -30,6 +31,8 @@ struct Lent {
     /// The console's alone: choices are in `message`, and so is a response that is read.
     request: Vec<u8>,
     rows: Vec<u8>,
+    /// What an export writes. A sheet that is imported is in `message`.
+    sheet: Vec<u8>,
 }
 
 impl Lent {
@@ -44,6 +47,7 @@ impl Lent {
         self.out.copy_from_slice(&other.out);
         self.request.copy_from_slice(&other.request);
         self.rows.copy_from_slice(&other.rows);
+        self.sheet.copy_from_slice(&other.sheet);
     }
 }
 
@@ -78,12 +82,22 @@ const BROADCAST_FRAME: Pair = pair!(broadcast_frame, library::large::broadcast_f
 /// Beside the model, which reads the rule as it stands: each phy is compared with all that are lower.
 const PRIMITIVE_AS_READ: Pair = pair!(primitive, library::large::primitive, large::primitive);
 
+// Sheets are timed beside plain Rust that goes byte by byte.
+const IMPORT: Pair = pair!(import, library::large::import, large::import_by_bytes);
+const EXPORT: Pair = pair!(export, library::large::export, large::export_by_bytes);
+
+/// Beside the model, which goes by whole lines and fields.
+const IMPORT_AS_READ: Pair = pair!(import, library::large::import, large::import);
+const EXPORT_AS_READ: Pair = pair!(export, library::large::export, large::export);
+
 const SMALL_START_UP: Pair = pair!(start_up, library::small::start_up, small::start_up);
 const SMALL_OPEN: Pair = pair!(open, library::small::open, small::open);
 const SMALL_PRIMITIVE: Pair = pair!(primitive, library::small::primitive, small::primitive_by_chains);
 const SMALL_BROADCAST_FRAME: Pair =
     pair!(broadcast_frame, library::small::broadcast_frame, small::broadcast_frame_by_chains);
 const SMALL_SMP: Pair = pair!(smp, library::small::smp, small::smp);
+const SMALL_IMPORT: Pair = pair!(import, library::small::import, small::import_by_bytes);
+const SMALL_EXPORT: Pair = pair!(export, library::small::export, small::export_by_bytes);
 
 const PHY_ZONES: Pair = pair!(console_phy_zones, library::console::phy_zones, console::phy_zones);
 const SINGLE: Pair = pair!(console_single, library::console::single, console::single);
@@ -143,6 +157,18 @@ fn smp(
     let Lent { phys, permissions, message, response, set, .. } = lent;
     let answer = smp(phys, permissions, ARRIVING, 0, EXPANDER_CHANGES, PHY_CHANGES, message, response, set);
     [answer.refusal, answer.result, answer.length, answer.count].map(u64::from)
+}
+
+#[inline]
+fn import(lent: &mut Lent, import: impl Fn(&[u8], &mut [u8], u32, u32, &[u8]) -> Imported) -> [u64; 4] {
+    let imported = import(&lent.phys, &mut lent.permissions, ARRIVING, 0, &lent.message);
+    [imported.refusal, imported.lines, imported.cause, 0].map(u64::from)
+}
+
+#[inline]
+fn export(lent: &mut Lent, export: impl Fn(&[u8], &mut [u8]) -> Exported) -> [u64; 4] {
+    let exported = export(&lent.permissions, &mut lent.sheet);
+    [exported.refusal, exported.length, 0, 0].map(u64::from)
 }
 
 /// One leaving for each phy.
@@ -214,6 +240,7 @@ fn shelf(phys: usize, routes: usize) -> Lent {
         out: vec![0; 28],
         request: Vec::new(),
         rows: Vec::new(),
+        sheet: Vec::new(),
     }
 }
 
@@ -324,6 +351,20 @@ fn hidden_on_small(mut lent: Lent) -> Lent {
     discover(lent)
 }
 
+/// Paper enough, and a table with every pair on.
+fn all_pairs(mut lent: Lent) -> Lent {
+    lent.permissions.fill(0xff);
+    lent.sheet = vec![0; MOST];
+    lent
+}
+
+/// A sheet that switches so many pairs on: the first of all a <= b from 2 to the last group.
+fn sheet(mut lent: Lent, last: usize, lines: usize) -> Lent {
+    let pairs = (2..=last).flat_map(|a| (a..=last).map(move |b| (a, b)));
+    lent.message = pairs.take(lines).flat_map(|(a, b)| format!("{a},{b},1\r\n").into_bytes()).collect();
+    lent
+}
+
 fn other_address(mut lent: Lent) -> Lent {
     lent.phys.as_chunks_mut::<RECORD>().0.iter_mut().for_each(|record| record[2] = 0b10);
     lent.message = address(NOWHERE).to_vec();
@@ -342,6 +383,7 @@ fn desk(message: Vec<u8>) -> Lent {
         out: Vec::new(),
         request: vec![0; ROOM],
         rows: vec![0; ROWS_ROOM],
+        sheet: Vec::new(),
     }
 }
 
@@ -381,6 +423,14 @@ struct Row {
     rust: f64,
 }
 
+impl Row {
+    /// The same for one of so many lines.
+    fn a_line(&self, lines: usize) -> Row {
+        let each = |time| time / lines as f64;
+        Row { name: format!("{}, a line", self.name), rattle: each(self.rattle), rust: each(self.rust) }
+    }
+}
+
 /// The number of runs is the first argument, else 1. What is printed of several runs is each row's median, for other
 /// work on the machine disturbs some of them.
 fn main() {
@@ -393,6 +443,8 @@ fn main() {
     print((0..runs).map(|_| on_small_shelf()).collect());
     println!();
     print((0..runs).map(|_| at_the_console()).collect());
+    println!();
+    print((0..runs).map(|_| of_sheets()).collect());
 }
 
 fn print(runs: Vec<Vec<Row>>) {
@@ -508,6 +560,27 @@ fn at_the_console() -> Vec<Row> {
         rows.push(case(&format!("console: a report read, rows {k}"), READ, reported(k), Runs::Many));
     }
     rows
+}
+
+/// Each with its cost a line.
+fn of_sheets() -> Vec<Row> {
+    let (full, small) = (|| shelf(128, 0), || small_shelf(128));
+    let cases = [
+        ("import of 8,001 lines", IMPORT, sheet(full(), 127, 8_001), 8_001),
+        ("export of 8,001 lines", EXPORT, all_pairs(full()), 8_001),
+        ("import of 8,001 lines, beside the model", IMPORT_AS_READ, sheet(full(), 127, 8_001), 8_001),
+        ("export of 8,001 lines, beside the model", EXPORT_AS_READ, all_pairs(full()), 8_001),
+        ("import of 1,000 lines", IMPORT, sheet(full(), 127, 1_000), 1_000),
+        ("import of 100 lines", IMPORT, sheet(full(), 127, 100), 100),
+        ("small: import of 21 lines", SMALL_IMPORT, sheet(small(), 7, 21), 21),
+        ("small: export of 21 lines", SMALL_EXPORT, all_pairs(small()), 21),
+    ];
+    let both = |(name, pair, lent, lines)| {
+        let row = case(name, pair, lent, Runs::Many);
+        let each = row.a_line(lines);
+        [row, each]
+    };
+    cases.into_iter().flat_map(both).collect()
 }
 
 fn case(name: &str, pair: Pair, lent: Lent, runs: Runs) -> Row {

@@ -121,7 +121,7 @@ fn any_entry<'a>(random: &mut Random, entries: &'a mut [u8]) -> Option<&'a mut [
     entries.get_mut(place)
 }
 
-fn single(random: &mut Random, profile: Profile) -> Console {
+pub fn single(random: &mut Random, profile: Profile) -> Console {
     let lowest = if random.percent(85) { 2 } else { 0 };
     let [a, b] = [0, 1].map(|_| u32::from(group(random, profile).max(lowest)));
     let b = if random.percent(6) { a } else { b };

@@ -8,7 +8,7 @@ use super::super::profile::Profile;
 use super::super::random::Random;
 use super::super::requests::group;
 use super::super::shelf::Shelf;
-use super::choices::{batch, damage_fairness, order, phy_zones, report, request_buffer, rows_buffer};
+use super::choices::{batch, damage_fairness, order, phy_zones, report, request_buffer, rows_buffer, single};
 use super::classes;
 use super::responses::response;
 use super::Console;
@@ -25,7 +25,7 @@ const TURNED_DOWN: u64 = 24;
 /// Calls that follow one another, with the model's answers. The shelf goes on with the tables that they leave behind.
 pub fn trip(random: &mut Random, shelf: &mut Shelf) -> Steps {
     let mut steps = Vec::new();
-    match random.below(12) {
+    match random.below(13) {
         0..=1 => packed_otherwise(random, shelf.profile, &mut steps),
         2..=3 => some_request_gets_it(random, shelf.profile, &mut steps),
         4..=5 => there_and_back(random, shelf, &mut steps),
@@ -41,6 +41,10 @@ pub fn trip(random: &mut Random, shelf: &mut Shelf) -> Steps {
             let report = report(random);
             there(random, shelf, report, &mut steps);
         }
+        11 => {
+            let one = single(random, shelf.profile);
+            there(random, shelf, one, &mut steps);
+        }
         _ => {
             let order = order(random, shelf.profile);
             there(random, shelf, order, &mut steps);
@@ -49,7 +53,7 @@ pub fn trip(random: &mut Random, shelf: &mut Shelf) -> Steps {
     steps
 }
 
-fn step(profile: Profile, call: Call, steps: &mut Steps) -> Answer {
+pub fn step(profile: Profile, call: Call, steps: &mut Steps) -> Answer {
     let answer = call.model(profile);
     steps.push((call, answer.clone()));
     answer
@@ -108,7 +112,7 @@ fn there_and_back(random: &mut Random, shelf: &mut Shelf, steps: &mut Steps) {
     there(random, shelf, Console::Batch { request, first_group: start as u32, choices, complete }, steps);
 }
 
-fn mutual_table(random: &mut Random, profile: Profile) -> Vec<u8> {
+pub fn mutual_table(random: &mut Random, profile: Profile) -> Vec<u8> {
     let mut table = profile.fresh_table();
     for _ in 0..random.between(1, 60) {
         let [a, b] = [0, 1].map(|_| Group::low_7_bits(group(random, profile).max(2)));
@@ -226,7 +230,7 @@ pub struct Trip<'a> {
 /// What is wrong with a trip.
 pub type Complaint = Result<(), &'static str>;
 
-fn ask(holds: bool, otherwise: &'static str) -> Complaint {
+pub fn ask(holds: bool, otherwise: &'static str) -> Complaint {
     if holds {
         Ok(())
     } else {
@@ -539,7 +543,8 @@ mod tests {
                 steps.as_mut_slice()
             {
                 let (group, width) = (*first_group as usize, if permissions.len() == 2048 { 16 } else { 1 });
-                permissions[width * group + width - 1 - group / 8] ^= 1 << (group % 8);
+                let row = permissions.as_mut_slice().chunks_mut(width).nth(group);
+                row.into_iter().for_each(|row| row[width - 1 - group / 8] ^= 1 << (group % 8));
             }
         }),
     ];

@@ -31,7 +31,8 @@ use Rattle.rules.proofs.RuleLaws.{is-93, is-c1, field-most}
 use Rattle.smp.specs.Smp.{roomFor, smpChecks, acceptedOrders}
 use Rattle.console_orders.specs.Building.{singleChecks, singleRequest, reportChecks}
 use Rattle.console_rows.specs.Batches.{choiceRows, batchChecks, batchRequest}
-use Rattle.console_zones.specs.Zones.{every, entryCount, fair, barred, phyZonesChecks, phyZonesRequest}
+use Rattle.wire.specs.Runs.{every}
+use Rattle.console_zones.specs.Zones.{entryCount, fair, barred, phyZonesChecks, phyZonesRequest}
 use Rattle.console_rows.proofs.BatchLaws.{batch-length}
 use Rattle.console_zones.proofs.ZoneLaws.{zones-length}
 use Rattle.console.specs.Asks.{Ask, zones, single, batch, report, checksOf, requestOf, ordersNamed, held, resultNamed, named, Rightful}

@@ -26,7 +26,8 @@ use Rattle.discover.specs.declared.Changes.{Changes}
 use Rattle.rules.specs.Rules.{smpReply}
 use Rattle.rules.proofs.RuleLaws.{is-93}
 use Rattle.console_orders.specs.Building.{eight}
-use Rattle.console_zones.specs.Zones.{every, entryCount, takesPart, priorityAt, groupAt, small, fair, barred, phyZonesChecks, entryByte, described, phyZonesRequest}
+use Rattle.wire.specs.Runs.{every}
+use Rattle.console_zones.specs.Zones.{entryCount, takesPart, priorityAt, groupAt, small, fair, barred, phyZonesChecks, entryByte, described, phyZonesRequest}
 use Rattle.console_zones.proofs.ZoneLaws.{small-at, zones-length}
 use Rattle.console.specs.Asks.{zones, held, chosenZones, resultNamed, named}
 use Rattle.console.specs.Promises.{SameZones}

@@ -14,7 +14,8 @@ use Rattle.requests.specs.Requests.{right, Reply, replied}
 use Rattle.shown_rows.specs.ShownRows.{shownRows}
 use Rattle.console_orders.specs.Building.{singleChecks, singleRequest, reportChecks, reportRequest}
 use Rattle.console_rows.specs.Batches.{choiceRows, chosen, batchChecks, batchRequest}
-use Rattle.console_zones.specs.Zones.{every, entryCount, takesPart, priorityAt, groupAt, phyZonesChecks, phyZonesRequest}
+use Rattle.wire.specs.Runs.{every}
+use Rattle.console_zones.specs.Zones.{entryCount, takesPart, priorityAt, groupAt, phyZonesChecks, phyZonesRequest}
 
 -- "phy zones (first phy, and for each phy: participating or not, priority, group), a single order (two groups, on or off, update complete or
 -- not), a batch (first group, rows, update complete or not), a report (first group, how many rows)"

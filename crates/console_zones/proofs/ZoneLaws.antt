@@ -1,63 +1,24 @@
--- Phy zones: the loop that judges each entry, the bytes of the descriptors, and what was written.
+-- Phy zones: the bytes of the descriptors, and what was written.
 -- Assumes nothing.
 use mathlib.Core.Path.{_≡_, refl, sym, ap, _∙_}
-use mathlib.Core.Bool.{Bool, true, false, cond, not, _&&_, true≢false}
+use mathlib.Core.Bool.{Bool, true, false, cond, not}
 use mathlib.Core.List.{List, _++_}
-use Prim.Native.Nat.{ℕ, zero, suc, _+_, _-_, _*_, _/_, _%_, _≤_, _<_}
-use native.Mathlib.Nat.{sub-zero}
-use native.Mathlib.Numerals.{add-one}
-use native.Mathlib.Decide.{decLt}
+use Prim.Native.Nat.{ℕ, _+_, _-_, _*_, _/_, _%_, _≤_, _<_}
 use native.Mathlib.Omega.{arith}
 use mir.Syntax.{w8}
 use mir.Val.{Fits}
-use borrow.Author.Tests.{lt-ltb, le-ltb, ltb-true, le-leb, lt-leb, eq-eqb, ne-eqb, not-true, not-false}
+use borrow.Author.Tests.{lt-ltb, le-ltb, ltb-true, le-leb, lt-leb, eq-eqb, ne-eqb, not-false}
 use lib.Dec.{eqb, ltb}
 use lib.ListN.{length, getD, drop, length-append, List·getD-eq-default}
 use lib.Seq.{paste}
 use Rattle.wire.specs.Bits.{num, tab}
-use Rattle.wire.proofs.Loops.{left, length-tab}
+use Rattle.wire.specs.Runs.{every}
+use Rattle.wire.proofs.Loops.{length-tab}
+use Rattle.wire.proofs.RunLaws.{every-at}
 use Rattle.tables.proofs.ArrivalLaws.{both}
 use Rattle.console_orders.specs.Building.{eight}
 use Rattle.console_orders.proofs.BuildLaws.{behind}
-use Rattle.console_zones.specs.Zones.{every, entryCount, takesPart, priorityAt, groupAt, small, fair, barred, entryByte, described, phyZonesRequest}
-
--- ---- the loop that judges each: those before i passed
-pub record Judged (f : ℕ → Bool) (k i : ℕ) : Type 0 where
-  pub within : i ≤ k
-  pub rest : every f 0 k ≡ every f i (k - i)
-
-pub judged-start : (f : ℕ → Bool) (k : ℕ) → Judged f k 0
-judged-start f k = record { within = omega arith; rest = rw (sub-zero k) }
-
-module _ (f : ℕ → Bool) (k i : ℕ) (v : Bool) (h : i < k) (e : v ≡ f i) (j : Judged f k i) where
-  pub judged-off : not v ≡ true → false ≡ every f 0 k
-  unfolding every
-  judged-off t = sym (j .rest ∙ rw (left k i h, ← e, not-true v t))
-
-  pub judged-again : not v ≡ false → Judged f k (i + 1)
-  unfolding every
-  judged-again t = record { within = omega arith; rest = j .rest ∙ rw (left k i h, ← e, not-false v t, add-one i) }
-
-pub judged-end : (f : ℕ → Bool) (k i : ℕ) → k ≤ i → Judged f k i → true ≡ every f 0 k
-unfolding every
-judged-end f k i h j = let l = j .within in let z : k - i ≡ 0 = omega arith in sym (j .rest ∙ rw z)
-
--- each of them passes where all do
-pub every-at : (f : ℕ → Bool) (i n k : ℕ) → i ≤ k → k < i + n → every f i n ≡ true → f k ≡ true
-unfolding every
-every-at f i zero k l h e = absurd (omega arith)
-every-at f i (suc n) k l h e = go (f i) refl (every-at f (suc i) n k) e
-  where
-    here : (i k : ℕ) → i ≤ k → (suc i ≤ k → ⊥) → i ≡ k
-    here i k a b = omega arith
-
-    go : (b : Bool) → f i ≡ b → (suc i ≤ k → k < suc i + n → every f (suc i) n ≡ true → f k ≡ true) → (b && every f (suc i) n) ≡ true → f k ≡ true
-    go true q later p = pick (decLt i k)
-      where
-        pick : Dec (i < k) → f k ≡ true
-        pick (yes a) = later (omega arith) (omega arith) p
-        pick (no a) = ap f (sym (here i k l (λ z. a (omega arith)))) ∙ q
-    go false q later p = absurd (true≢false (sym p))
+use Rattle.console_zones.specs.Zones.{entryCount, takesPart, priorityAt, groupAt, small, fair, barred, entryByte, described, phyZonesRequest}
 
 -- ---- entries
 module _ (entries : List ℕ) (i : ℕ) where

@@ -1,11 +1,12 @@
 -- Request 06, building: phy zones, "first phy, and for each phy: participating or not, priority, group": three bytes an entry. Any other value than
 -- 0 is participating.
-use mathlib.Core.Bool.{Bool, true, cond, not, _&&_, _||_}
+use mathlib.Core.Bool.{Bool, cond, not, _&&_, _||_}
 use mathlib.Core.List.{List, [], _∷_, _++_}
-use Prim.Native.Nat.{ℕ, zero, suc, _+_, _*_, _/_, _%_}
+use Prim.Native.Nat.{ℕ, _+_, _*_, _/_, _%_}
 use lib.Dec.{eqb, ltb, leb}
 use lib.ListN.{length, getD}
 use Rattle.wire.specs.Bits.{num, tab}
+use Rattle.wire.specs.Runs.{every}
 use Rattle.tables.specs.Refusals.{Check, refuse, below, differ, off, on, firstRefusal}
 use Rattle.tables.specs.Outcome.{Out}
 use Rattle.console_orders.specs.Building.{builtOut, eight}
@@ -21,11 +22,6 @@ priorityAt entries i = getD entries (3 * i + 1) 0
 
 abbrev pub groupAt : List ℕ → ℕ → ℕ
 groupAt entries i = getD entries (3 * i + 2) 0
-
--- f holds at i, i + 1, .., n of them
-unfoldable pub every : (ℕ → Bool) → ℕ → ℕ → Bool
-every f i zero = true
-every f i (suc n) = f i && every f (suc i) n
 
 -- not 23: no "group .. above 127, or a priority above 15"
 unfoldable pub small : List ℕ → ℕ → Bool

@@ -17,7 +17,8 @@ ghost use Rattle.wire.specs.Bits.{tab};
 ghost use Rattle.tables.specs.Refusals.{firstRefusal, Clear};
 ghost use Rattle.tables.specs.Outcome.{out};
 ghost use Rattle.console_orders.specs.Building.{builtAs, atFront};
-ghost use Rattle.console_zones.specs.Zones.{every, entryCount, small, fair, barred, phyZonesChecks, entryByte, described, phyZonesRequest, phyZonesOut};
+ghost use Rattle.wire.specs.Runs.{every};
+ghost use Rattle.console_zones.specs.Zones.{entryCount, small, fair, barred, phyZonesChecks, entryByte, described, phyZonesRequest, phyZonesOut};
 
 fn is_small(entries: &[u8], i: usize) -> bool
     requires { ⌜ (i < entryCount (now entries)) × (length (now entries) ≤ 384) ⌝ }

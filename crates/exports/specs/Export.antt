@@ -2,19 +2,15 @@
 -- the small shelf's groups end at 7.
 use mathlib.Core.Bool.{true, cond}
 use mathlib.Core.List.{List, [], _∷_, _++_}
-use Prim.Native.Nat.{ℕ, zero, suc, _-_}
+use Prim.Native.Nat.{ℕ, _-_}
 use lib.ListN.{length, drop}
+use Rattle.wire.specs.Runs.{texts}
 use Rattle.permit.specs.Permission.{groups, permissionsSized, P}
 use Rattle.tables.specs.Refusals.{Check, refuse, below, off, firstRefusal}
 use Rattle.tables.specs.Outcome.{Answer, refusal, answer, Out, outcome}
 use Rattle.sheet_lines.specs.Line.{CR, LF, sheetMost, lineText}
 use Rattle.exports.specs.declared.Exported.{Exported}
 use Rattle.exports.specs.declared.Exported.the-variants.{Refused, Written}
-
--- "ascending": the texts of i, i + 1, .., n of them, one behind the other
-unfoldable pub texts : (ℕ → List ℕ) → ℕ → ℕ → List ℕ
-texts f i zero = []
-texts f i (suc n) = f i ++ texts f (suc i) n
 
 -- "a line a,b,1 .. with P(a,b) on .. CRLF"
 unfoldable pub pairText : ℕ → List ℕ → ℕ → ℕ → List ℕ

@@ -30,6 +30,10 @@ module _ (w : ℕ) (t : List ℕ) (a b : ℕ) (x : Bool) where
       go true = e
       go false = e
 
+-- what the code was told of two groups that the table holds
+pub reach-held : (w : ℕ) (t : List ℕ) (a b : ℕ) (x : Bool) → a < groups w → b < groups w → x ≡ reaches w t a b → x ≡ P w t a b
+reach-held w t a b x ha hb e = e ∙ sym (reach-in w t a b (P w t a b) ha hb refl)
+
 -- document 01's table holds every group
 pub reaches-16 : (t : List ℕ) (a b : ℕ) → a < 128 → b < 128 → reaches 16 t a b ≡ P 16 t a b
 reaches-16 t a b ha hb = sym (reach-in 16 t a b (P 16 t a b) ha hb refl)

@@ -59,7 +59,7 @@ fn row_has(width: usize, permissions: &[u8], row: usize, group: usize) -> bool
 }
 
 // What is said of two groups of which the table does not hold both.
-fn one_is_group_1(row: usize, group: usize) -> bool
+pub fn one_is_group_1(row: usize, group: usize) -> bool
     ensures { λ r. ⌜ r ≡ (eqb row 1 || eqb group 1) ⌝ }
 {
     (row == 1) | (group == 1)

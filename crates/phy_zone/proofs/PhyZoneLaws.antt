@@ -99,7 +99,7 @@ length-configured phys request start i (suc n) =
     ∙ length-zoned phys (start + i) (first request i) (group request i)
 
 -- a store to another record, or past its bytes 0 and 1, is not seen
-zoned-keeps : (phys : List ℕ) (i b0 b1 j m : ℕ) → m < phyRecord → (j ≡ i → 2 ≤ m) → phyByte (zoned phys i b0 b1) j m ≡ phyByte phys j m
+pub zoned-keeps : (phys : List ℕ) (i b0 b1 j m : ℕ) → m < phyRecord → (j ≡ i → 2 ≤ m) → phyByte (zoned phys i b0 b1) j m ≡ phyByte phys j m
 unfolding zoned
 zoned-keeps phys i b0 b1 j m h k = go (ℕ-discrete j i)
   where
@@ -145,7 +145,7 @@ configured-behind phys request start i (suc n) j m h b =
     ∙ zoned-keeps phys (start + i) (first request i) (group request i) j m h (λ e. omega arith)
 
 -- each record of the run has its own descriptor, the last as the first
-zoned-first : (phys : List ℕ) (i b0 b1 : ℕ) → i < phyCount phys → phyByte (zoned phys i b0 b1) i 0 ≡ b0 % 32
+pub zoned-first : (phys : List ℕ) (i b0 b1 : ℕ) → i < phyCount phys → phyByte (zoned phys i b0 b1) i 0 ≡ b0 % 32
 unfolding zoned
 zoned-first phys i b0 b1 h =
     let z : phyRecord * i + 0 ≡ phyRecord * i = omega arith in
@@ -153,7 +153,7 @@ zoned-first phys i b0 b1 h =
     (getD-set-other (set phys (phyRecord * i) (b0 % 32)) (phyRecord * i + 1) (phyRecord * i) (b1 % 128) 0 (λ q. omega arith)
     ∙ getD-set-same phys (phyRecord * i) (b0 % 32) 0 (omega arith))
 
-zoned-group : (phys : List ℕ) (i b0 b1 : ℕ) → i < phyCount phys → phyByte (zoned phys i b0 b1) i 1 ≡ b1 % 128
+pub zoned-group : (phys : List ℕ) (i b0 b1 : ℕ) → i < phyCount phys → phyByte (zoned phys i b0 b1) i 1 ≡ b1 % 128
 unfolding zoned
 zoned-group phys i b0 b1 h =
     getD-set-same (set phys (phyRecord * i) (b0 % 32)) (phyRecord * i + 1) (b1 % 128) 0 (simp length-set (omega arith))

@@ -13,7 +13,7 @@ ghost use Rattle.phy_zone.specs.PhyZone.{entries, startPhy, sound, allSo
 ghost use Rattle.phy_zone.specs.Inner.{Fitting};
 
 // Whether a descriptor may be written: its group is one, and is 1 where it is to participate.
-fn is_sound(width: usize, b0: u8, b1: u8) -> bool
+pub fn is_sound(width: usize, b0: u8, b1: u8) -> bool
     requires { ⌜ Width width ⌝ }
     ensures { λ r. ⌜ r ≡ sound width b0 b1 ⌝ }
 {

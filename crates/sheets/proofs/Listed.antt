@@ -17,7 +17,8 @@ use Rattle.permit.proofs.Laws.{Bytes, Mutual, length-start, getD-start, table-e
 use Rattle.permit.proofs.HistoryLaws.{latest-none, latest-swap, length-apply, bytes-apply, low-kept, history}
 use Rattle.sheet_lines.specs.Line.{CR, LF, lineText}
 use Rattle.sheet_lines.proofs.LineLaws.{both-true}
-use Rattle.exports.specs.Export.{texts, pairText, rowText, sheetText}
+use Rattle.wire.specs.Runs.{texts}
+use Rattle.exports.specs.Export.{pairText, rowText, sheetText}
 
 -- ---- the lines of orders that switch on
 -- one line behind the other

@@ -16,7 +16,8 @@ use Rattle.permit.proofs.Laws.{place-lt}
 use Rattle.sheet_lines.specs.Line.{CR, LF, numeral, lineText}
 use Rattle.sheet_lines.proofs.NumeralLaws.{one-figure, two-figures, three-figures}
 use Rattle.exports.specs.Export.{pairText, rowText, sheetText}
-use Rattle.exports.proofs.ExportLaws.{line-length, sums, texts-most, texts-exact}
+use Rattle.lines.proofs.Putting.{sums, texts-most, texts-exact}
+use Rattle.exports.proofs.ExportLaws.{line-length}
 use Rattle.sheets.specs.Promises.{LongestIs, Longest}
 
 -- ---- how many bytes, as numbers that compute

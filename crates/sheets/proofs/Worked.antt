@@ -14,7 +14,8 @@ use Rattle.lines.specs.Text.{digits}
 use Rattle.rack.specs.Rack.{rack, flat, rackTable}
 use Rattle.sheet_lines.specs.Line.{numeral, lineText, isFigure, figures, number, beforeComma, beforeLF, beforeEnd, switch, lineOf}
 use Rattle.imports.specs.Import.{unlessStopped, obeyed, importLines}
-use Rattle.exports.specs.Export.{texts, pairText, rowText, sheetText}
+use Rattle.wire.specs.Runs.{texts}
+use Rattle.exports.specs.Export.{pairText, rowText, sheetText}
 use Rattle.sheets.specs.Cases.{Cases, sends}
 
 pub cases : Cases

@@ -4,3 +4,4 @@ pub mod Copies
 pub mod Addresses
 pub mod Sets
 pub mod GroupLaws
+pub mod RunLaws

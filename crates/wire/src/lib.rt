@@ -50,7 +50,7 @@ fn wide(b: u8) -> u64
 }
 
 // Two bytes, the higher first.
-fn two_at(bytes: &[u8], at: usize) -> u64
+pub fn two_at(bytes: &[u8], at: usize) -> u64
     requires { ⌜ at + 2 ≤ length (now bytes) ⌝ }
     ensures { λ r. ⌜ (r ≡ bigEndian (now (bytes .entry)) 2 at 0) × (r < 65536) ⌝ }
 {
@@ -58,7 +58,7 @@ fn two_at(bytes: &[u8], at: usize) -> u64
 }
 
 // Four bytes, as two halves.
-fn four_at(bytes: &[u8], at: usize) -> u64
+pub fn four_at(bytes: &[u8], at: usize) -> u64
     requires { ⌜ at + 4 ≤ length (now bytes) ⌝ }
     ensures { λ r. ⌜ (r ≡ bigEndian (now (bytes .entry)) 4 at 0) × (r < 4294967296) ⌝ }
 {

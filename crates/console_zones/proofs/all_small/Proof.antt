@@ -2,13 +2,14 @@
 -- Assumes nothing.
 use Prim.Native.Nat.{_-_}
 use Rattle.console_zones.specs.Zones.{small}
-use Rattle.console_zones.proofs.ZoneLaws.{Judged, judged-start, judged-off, judged-again, judged-end}
+use Rattle.wire.specs.Runs.{every}
+use Rattle.wire.proofs.RunLaws.{Judged, judged-start, judged-off, judged-again, judged-end}
 use native.Mathlib.Omega.{arith}
 use Rattle.console_zones.proofs.all_small.Statement.{statement}
 use Rattle.console_zones.proofs.all_small.Tie as tie
 
 abbrev Inv-loop : tie.InvT-loop
-Inv-loop entries k i₀ i = Judged (small entries) k i
+Inv-loop entries k i₀ i = Judged (every (small entries) 0 k) (small entries) k i
 
 abbrev μ-loop : tie.MeasureT-loop
 μ-loop entries k i₀ i = k - i

@@ -4,7 +4,8 @@ use Prim.Native.Nat.{_-_}
 use borrow.Author.Needs.{needs}
 use Rattle.permit.specs.Permission.{groups}
 use Rattle.exports.specs.Export.{rowText}
-use Rattle.exports.proofs.ExportLaws.{Putting, putting-start, putting-length, putting-again, sheet-room, sheet-end}
+use Rattle.lines.proofs.Putting.{Putting, putting-start, putting-length, putting-again}
+use Rattle.exports.proofs.ExportLaws.{sheet-room, sheet-end}
 use native.Mathlib.Omega.{arith}
 use Rattle.exports.proofs.put_sheet.Statement.{statement}
 use Rattle.exports.proofs.put_sheet.Tie as tie

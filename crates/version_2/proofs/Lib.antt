@@ -1,0 +1,2 @@
+pub mod WholeSaves
+pub mod WholeLoads

@@ -1,0 +1,11 @@
+pub mod Listed
+pub mod PairTrips
+pub mod Ends
+pub mod Answered
+pub mod FileTrips
+pub mod BlockTrips
+pub mod WholeFiles
+pub mod WholeTrips
+pub mod Longest
+pub mod Kept
+pub mod Worked

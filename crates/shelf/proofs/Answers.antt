@@ -26,7 +26,7 @@ use Rattle.discover.proofs.DiscoverLaws.{hidden}
 use Rattle.rules.specs.Rules.{functionOf, smpReply}
 use Rattle.smp.specs.Smp.{valuesOf, buffersOf}
 use Rattle.rules.proofs.RuleLaws.{is-10, down}
-use Rattle.shelf.specs.Calls.{startUp, leaving, identify, elect, opening, primitive, broadcastFrame, smp, importSheet, exportSheet, outcomeOf, handedIn, answerOf}
+use Rattle.shelf.specs.Calls.{startUp, leaving, identify, elect, opening, primitive, broadcastFrame, smp, importSheet, exportSheet, saveVersion1, saveVersion2, loadVersion1, loadVersion2, outcomeOf, handedIn, answerOf}
 use Rattle.shelf.specs.Promises.{Refusals, TurnedDown, Discovers, Vacant}
 
 -- an outcome that is a refusal has the buffers that were handed in
@@ -47,6 +47,10 @@ refusals w (broadcastFrame phys phy arrived set frame) t n bs e = keeps _ _ _ _ 
 refusals w (smp phys phy carried changes request response set) t n bs e = keeps _ _ _ _ n bs e
 refusals w (importSheet phys phy carried sheet) t n bs e = keeps _ _ _ _ n bs e
 refusals w (exportSheet sheet) t n bs e = keeps _ _ _ _ n bs e
+refusals w (saveVersion1 file) t n bs e = keeps _ _ _ _ n bs e
+refusals w (saveVersion2 phys file) t n bs e = keeps _ _ _ _ n bs e
+refusals w (loadVersion1 file) t n bs e = keeps _ _ _ _ n bs e
+refusals w (loadVersion2 phys file) t n bs e = keeps _ _ _ _ n bs e
 
 -- an outcome that is no refusal has the values and buffers that the call gives
 pub gave : (m : ℕ) (values : List ℕ) (old new : List (List ℕ)) (vs : List ℕ) (bs : List (List ℕ)) → outcome m values old new ≡ out (answer vs) bs

@@ -9,6 +9,7 @@ use Rattle.broadcasts.proofs.Unique as broadcasts
 use Rattle.smp.proofs.Unique as smp
 use Rattle.imports.proofs.Unique as imports
 use Rattle.exports.proofs.Unique as exports
+use Rattle.file_trailer.proofs.Unique as files
 use Rattle.shelf.specs.Promises.{One, ExactlyOne}
 
 -- one lemma for all calls, from that an answer is one in document 01's numbers
@@ -26,4 +27,6 @@ exactly-one = (
   one _ smp.one-answer,
   one _ imports.one-answer,
   one _ exports.one-answer,
+  one _ files.one-save,
+  one _ files.one-load,
 )

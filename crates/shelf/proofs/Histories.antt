@@ -1,7 +1,7 @@
 -- History, over any run of calls, and isolation.
 -- Assumes nothing.
 use mathlib.Core.Path.{_≡_, refl, sym, ap, _∙_}
-use mathlib.Core.Bool.{false, cond}
+use mathlib.Core.Bool.{true, false, cond}
 use mathlib.Core.Logic.{inl, inr}
 use mathlib.Core.List.{List, [], _∷_, _++_}
 use Prim.Native.Nat.{ℕ, zero, suc, _<_}
@@ -30,7 +30,14 @@ use Rattle.smp.specs.Smp.{roomFor, smpChecks, smpOut, acceptedOrders}
 use Rattle.smp.proofs.SmpLaws.{permissionsAfter, orders-applied, orders-valid}
 use Rattle.imports.specs.Import.{importOut, importOrders}
 use Rattle.imports.proofs.Accepted as imports
-use Rattle.shelf.specs.Calls.{Call, startUp, leaving, identify, elect, opening, primitive, broadcastFrame, smp, importSheet, exportSheet, outcomeOf, answerOf, bufferOf, after, accepted, kept, run, orders}
+use Rattle.file_pairs.specs.Pairs.{ascending, ordersOf, loaded}
+use Rattle.file_pairs.proofs.Records as records
+use Rattle.file_trailer.specs.Trailer.{versionOf, pairsIn}
+use Rattle.version_1.specs.Version1.{loadChecks}
+use Rattle.version_1.proofs.Loads.{load-ascends}
+use Rattle.version_2.specs.Version2.{loadWholeChecks, physAfter}
+use Rattle.version_2.proofs.WholeLoads.{load-pairs}
+use Rattle.shelf.specs.Calls.{Call, startUp, leaving, identify, elect, opening, primitive, broadcastFrame, smp, importSheet, exportSheet, saveVersion1, saveVersion2, loadVersion1, loadVersion2, outcomeOf, answerOf, bufferOf, after, accepted, kept, run, orders}
 use Rattle.shelf.specs.Promises.{History, BothWays, NoOpen, NoBroadcast, NoDiscover}
 use Rattle.shelf.proofs.Answers.{gave, forwarded, vacant}
 
@@ -87,6 +94,21 @@ begins : (w : ℕ) (t : List ℕ) (os : List Order) → length t ≡ tableSize w
 unfolding after outcomeOf apply
 begins w t os e = rw (afresh w t os e) (record { made = start-table w t e; valid = tt })
 
+-- ---- a load is start-up and then its orders, where it is not refused
+-- buffer 0 of an outcome, as buffer 1
+first-buffer : (n : ℕ) (values : List ℕ) (b : List ℕ) (os : List (List ℕ)) (d : List ℕ) (ns : List (List ℕ))
+    → bufferOf 0 (outcome n values (b ∷ os) (d ∷ ns)) ≡ cond (eqb n 0) d b
+unfolding outcome
+first-buffer zero values b os d ns = refl
+first-buffer (suc n) values b os d ns = rw (ne-eqb (suc n) 0 (λ z. omega arith))
+
+-- with n what its checks answer
+loads-made : (w n : ℕ) (t file : List ℕ) (os : List Order) → Made w t os → (n ≡ 0 → ascending w 0 (pairsIn file) ≡ true)
+    → Made w (cond (eqb n 0) (loaded w (pairsIn file)) t) (cond (eqb n 0) [] os ++ cond (eqb n 0) (ordersOf (pairsIn file)) [])
+unfolding loaded
+loads-made w zero t file os m f = record { made = refl; valid = records.orders-valid w 0 (pairsIn file) (records.ascends w 0 (pairsIn file) (f refl)) }
+loads-made w (suc n) t file os m f = rw (ne-eqb (suc n) 0 (λ z. omega arith)) (nothing-more w t os m)
+
 -- one call
 step : (w : ℕ) (c : Call) (t : List ℕ) (os : List Order) → Made w t os → Made w (after w c t) (kept w c t os ++ accepted w c t)
 unfolding after accepted kept outcomeOf apply
@@ -98,6 +120,14 @@ step w (opening phys routes phy frame buffer) t os m = nothing-more w t os m
 step w (primitive phys phy number set frame) t os m = nothing-more w t os m
 step w (broadcastFrame phys phy arrived set frame) t os m = nothing-more w t os m
 step w (exportSheet sheet) t os m = nothing-more w t os m
+step w (saveVersion1 file) t os m = nothing-more w t os m
+step w (saveVersion2 phys file) t os m = nothing-more w t os m
+step w (loadVersion1 file) t os m =
+    rw (first-buffer (firstRefusal (loadChecks w t file)) (1 ∷ []) t [] (loaded w (pairsIn file)) [])
+    (loads-made w (firstRefusal (loadChecks w t file)) t file os m (λ z. load-ascends w t file _ refl z))
+step w (loadVersion2 phys file) t os m =
+    rw (second (firstRefusal (loadWholeChecks w phys t file)) (versionOf file ∷ []) phys t [] (physAfter phys file) (loaded w (pairsIn file)) [])
+    (loads-made w (firstRefusal (loadWholeChecks w phys t file)) t file os m (λ z. load-pairs w phys t file _ refl z .1))
 step w (importSheet phys phy carried sheet) t os m =
     let os₁ = importOrders w phys t phy carried sheet in
     record {

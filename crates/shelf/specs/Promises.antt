@@ -36,6 +36,7 @@ use Rattle.rules.specs.Rules.{functionOf}
 use Rattle.smp.specs.Smp.{answeredAs}
 use Rattle.imports.specs.Import.{importedAs}
 use Rattle.exports.specs.Export.{exportedAs}
+use Rattle.file_trailer.specs.Answers.{savedAs, loadedAs}
 use Rattle.shelf.specs.Calls.{Call, startUp, leaving, opening, primitive, broadcastFrame, smp, importSheet, outcomeOf, handedIn, answerOf, after, run, orders}
 
 -- ---- Answers
@@ -59,9 +60,9 @@ TurnedDown =
 abbrev pub One : {A : Type 0} → (A → Answer) → Type 0
 One {A} tells = (r q : A) (xs ys : List (List ℕ)) (o : Out) → out (tells r) xs ≡ o → out (tells q) ys ≡ o → (r ≡ q) × (xs ≡ ys)
 
--- of start_up, leaving and identify; elect; open; primitive and broadcast_frame; smp; import_sheet; export_sheet
+-- of start_up, leaving and identify; elect; open; primitive and broadcast_frame; smp; import_sheet; export_sheet; both saves; both loads
 abbrev pub ExactlyOne : Type 0
-ExactlyOne = One linkedAs × One electedAs × One openedAs × One toldAs × One answeredAs × One importedAs × One exportedAs
+ExactlyOne = One linkedAs × One electedAs × One openedAs × One toldAs × One answeredAs × One importedAs × One exportedAs × One savedAs × One loadedAs
 
 -- ---- History
 

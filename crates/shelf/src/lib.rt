@@ -31,3 +31,11 @@ pub use exports::Exported;
 pub use exports::export_sheet;
 pub use imports::Imported;
 pub use imports::import_sheet;
+
+// The tables are saved as a file, of version 1 or 2, and loaded from one.
+pub use file_trailer::Loaded;
+pub use file_trailer::Saved;
+pub use version_1::load_version_1;
+pub use version_1::save_version_1;
+pub use version_2::load_version_2;
+pub use version_2::save_version_2;

@@ -12,11 +12,16 @@ ghost use Rattle.broadcasts.specs.Broadcasts.{toldAs, primitiveOut, broadcastOu
 ghost use Rattle.smp.specs.Smp.{answeredAs, smpOut};
 ghost use Rattle.imports.specs.Import.{importedAs, importOut};
 ghost use Rattle.exports.specs.Export.{exportedAs, exportOut};
+ghost use Rattle.file_trailer.specs.Answers.{savedAs, loadedAs};
+ghost use Rattle.version_1.specs.Version1.{saveOut, loadOut};
+ghost use Rattle.version_2.specs.Version2.{saveWholeOut, loadWholeOut};
 
 // The answers.
 pub use broadcasts::Told;
 pub use election::Elected;
 pub use exports::Exported;
+pub use file_trailer::Loaded;
+pub use file_trailer::Saved;
 pub use imports::Imported;
 pub use links::Linked;
 pub use opens::Opened;
@@ -121,4 +126,29 @@ pub fn export_sheet(permissions: &[u8], sheet: &mut [u8]) -> Exported
     ensures { λ r. ⌜ out (exportedAs r) (now (sheet .exit) ∷ []) ≡ exportOut 1 (now (permissions .entry)) (now (sheet .entry)) ⌝ }
 {
     exports::export_sheet_at(WIDTH, permissions, sheet)
+}
+
+// The tables are saved as a file, of version 1 or 2, and loaded from one.
+pub fn save_version_1(permissions: &[u8], file: &mut [u8]) -> Saved
+    ensures { λ r. ⌜ out (savedAs r) (now (file .exit) ∷ []) ≡ saveOut 1 (now (permissions .entry)) (now (file .entry)) ⌝ }
+{
+    version_1::save_version_1_at(WIDTH, permissions, file)
+}
+
+pub fn save_version_2(phys: &[u8], permissions: &[u8], file: &mut [u8]) -> Saved
+    ensures { λ r. ⌜ out (savedAs r) (now (file .exit) ∷ []) ≡ saveWholeOut 1 (now (phys .entry)) (now (permissions .entry)) (now (file .entry)) ⌝ }
+{
+    version_2::save_version_2_at(WIDTH, phys, permissions, file)
+}
+
+pub fn load_version_1(permissions: &mut [u8], file: &[u8]) -> Loaded
+    ensures { λ r. ⌜ out (loadedAs r) (now (permissions .exit) ∷ []) ≡ loadOut 1 (now (permissions .entry)) (now (file .entry)) ⌝ }
+{
+    version_1::load_version_1_at(WIDTH, permissions, file)
+}
+
+pub fn load_version_2(phys: &mut [u8], permissions: &mut [u8], file: &[u8]) -> Loaded
+    ensures { λ r. ⌜ out (loadedAs r) (now (phys .exit) ∷ now (permissions .exit) ∷ []) ≡ loadWholeOut 1 (now (phys .entry)) (now (permissions .entry)) (now (file .entry)) ⌝ }
+{
+    version_2::load_version_2_at(WIDTH, phys, permissions, file)
 }

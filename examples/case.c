@@ -175,6 +175,24 @@ static void export_all(void) {
         if (sheet[i] != '\r') putchar(sheet[i]);
 }
 
+/* Both tables are kept in a file over a power loss: start-up forgets the orders, and the phys come back without their zones. */
+static void lose_power(void) {
+    static uint8_t file[SHELF_FILE_ROOM];
+    struct shelf_saved saved = shelf_save_version_2(phys, sizeof phys, permissions, sizeof permissions, file, sizeof file);
+    printf("save, version 2: refusal %u, %u bytes\n", saved.refusal, saved.length);
+    for (unsigned i = 0; i < PHYS; i++)
+        phys[RECORD * i] = phys[RECORD * i + 1] = 0;
+    printf("start-up: refusal %u\n", shelf_start_up(permissions, sizeof permissions));
+    open_to(2, 5);
+    struct shelf_loaded loaded = shelf_load_version_1(permissions, sizeof permissions, file, saved.length);
+    printf("load by the reader of version 1: refusal %u\n", loaded.refusal);
+    loaded = shelf_load_version_2(phys, sizeof phys, permissions, sizeof permissions, file, saved.length - 1);
+    printf("load of the file cut by a byte: refusal %u\n", loaded.refusal);
+    loaded = shelf_load_version_2(phys, sizeof phys, permissions, sizeof permissions, file, saved.length);
+    printf("load: refusal %u, version %u\n", loaded.refusal, loaded.version);
+    open_to(2, 5);
+}
+
 int main(void) {
     const uint8_t byte_20 = 0x81; /* of the connection's OPEN: ACCESS ZONE MANAGEMENT, and group 1 */
     bench_rack();
@@ -201,5 +219,6 @@ int main(void) {
     import_from_0("8,9,1\n09,9,1\n10,10,1\n");
     import_from_0("9,9,1\n1000,9,1\n");
     export_all();
+    lose_power();
     return 0;
 }

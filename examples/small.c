@@ -86,6 +86,21 @@ static void export_all(void) {
         if (sheet[i] != '\r') putchar(sheet[i]);
 }
 
+/* The permission table in a file and back, and a file of the large shelf, whose groups this table does not hold. */
+static void save_and_load(void) {
+    static const uint8_t large[] = {8, 9, 0, 1, 0, 1, 0, 0, 0, 0, 0, 0, 0, 14};
+    static uint8_t file[SMALL_FILE_ROOM];
+    struct small_saved saved = small_save_version_1(permissions, sizeof permissions, file, sizeof file);
+    printf("save, version 1: refusal %u\n", saved.refusal);
+    print_bytes("  file", file, saved.length);
+    printf("start-up: refusal %u\n", small_start_up(permissions, sizeof permissions));
+    struct small_loaded loaded = small_load_version_1(permissions, sizeof permissions, large, sizeof large);
+    printf("load of groups 8 and 9: refusal %u\n", loaded.refusal);
+    loaded = small_load_version_1(permissions, sizeof permissions, file, saved.length);
+    printf("load: refusal %u, version %u\n", loaded.refusal, loaded.version);
+    print_bytes("permissions", permissions, sizeof permissions);
+}
+
 int main(void) {
     static uint8_t large[2048];
     rack();
@@ -107,5 +122,6 @@ int main(void) {
     import_from_0("7,7,1\r\n2,3,0\r\n3,4,1\r\n");
     import_from_0("4,5,1\n7,8,1\n");
     export_all();
+    save_and_load();
     return 0;
 }

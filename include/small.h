@@ -5,8 +5,8 @@
  * A pointer must be readable (or, where it is not const, readable and writable) for its length in bytes and must not be
  * null, also where the length is 0. No two buffers of one call may overlap where one of the two is written.
  *
- * refusal   0 where the call was answered, else the numbered refusal of the scope document (1 to 8). A refused call writes
- *           no byte of any buffer, and the other fields of its answer are 0.
+ * refusal   0 where the call was answered, else the numbered refusal of the scope document (1 to 8) or, of a saved file, one of
+ *           those below (31 to 41). A refused call writes no byte of any buffer, and the other fields of its answer are 0.
  *
  * A number that C could narrow silently is taken as 32 bits and never truncated:
  *   phy      256 or more is refused as any number that is not below the number of phys: 2
@@ -55,6 +55,28 @@ enum { SMALL_BAD_TEXT = 1, SMALL_NO_SUCH_GROUP = 2, SMALL_NO_RIGHT = 3 };
 /* the most bytes that a sheet may have, and the room that small_export asks for */
 enum { SMALL_SHEET_MOST = 88011 };
 
+/* the room that both saves ask for; a file of version 1 has at most 54 bytes, one of version 2 at most 440 */
+enum { SMALL_FILE_ROOM = 16400 };
+
+/* why a file is not loaded, in the order of checking: each is looked for in the whole file before the next */
+enum {
+    SMALL_FILE_TOO_SHORT = 31,       /* under 12 bytes */
+    SMALL_FILE_VERSION_2 = 32,       /* version 2, at the reader of version 1 */
+    SMALL_FILE_VERSION_UNKNOWN = 33, /* any other version that the reader does not know */
+    SMALL_FILE_LENGTHS = 34,         /* the length in the trailer, or what the counts add up to, is not the file's length */
+    SMALL_FILE_OFFSET = 35,          /* the offset of the first record is not 0 */
+    SMALL_FILE_PHY_COUNT = 36,       /* another number of phys than the table lent has */
+    SMALL_FILE_PAIR = 37,            /* a pair out of range or order */
+    SMALL_FILE_PHY = 38,             /* a phy out of range or order */
+    SMALL_FILE_ZONE = 39             /* bytes 0 and 1 of a phy that 93h would answer with 02h, or with a reserved bit set */
+};
+
+/* why a table is not saved */
+enum {
+    SMALL_TABLE_PERMISSIONS = 40, /* not mutual, or other rows for groups 0 and 1 than at start-up */
+    SMALL_TABLE_PHYS = 41         /* a phy's bytes 0 and 1 that 93h could not have written */
+};
+
 struct small_elected {
     uint32_t refusal;
     uint32_t priority; /* 0 where there is no candidate */
@@ -88,6 +110,16 @@ struct small_imported {
 struct small_exported {
     uint32_t refusal;
     uint32_t length; /* how many bytes of the sheet were written */
+};
+
+struct small_saved {
+    uint32_t refusal;
+    uint32_t length; /* how many bytes the file has */
+};
+
+struct small_loaded {
+    uint32_t refusal;
+    uint32_t version; /* the file's version, 1 or 2: of version 1 the phys stay as they are */
 };
 
 /* Start-up. Refusals: 1. Writes all of permissions. */
@@ -151,6 +183,26 @@ struct small_imported small_import(const uint8_t *phys, size_t phys_len, uint8_t
 /* The permitted pairs as a sheet: a line a,b,1 with CR LF for every a <= b from 2 to 7 with permission on in row a, ascending by a and
  * then b. Refusals: 1, 3 (sheet_len under 88,011, whatever the table holds). Writes the first length bytes of sheet, 147 at most. */
 struct small_exported small_export(const uint8_t *permissions, size_t permissions_len, uint8_t *sheet, size_t sheet_len);
+
+/* The permission table as a file of version 1: two bytes a, b for every a <= b from 2 to 7 with permission on, ascending by a and then b; then
+ * 12 bytes, big-endian: the version, 1 (2 bytes), how many pairs (2), the offset of the first, 0 (4), and the file's length (4). Refusals: 1, 3
+ * (file_len under 16,400, whatever the table holds), 40. Writes the first length bytes of file. */
+struct small_saved small_save_version_1(const uint8_t *permissions, size_t permissions_len, uint8_t *file, size_t file_len);
+
+/* Both tables as a file of version 2: the pairs; three bytes for every phy, ascending: its number and bytes 0 and 1 of its record; how many phys
+ * (2 bytes), and the 12 bytes of version 1 with version 2. Refusals: 1, 3 (as for version 1), 40, 41. Writes the first length bytes of file. */
+struct small_saved small_save_version_2(const uint8_t *phys, size_t phys_len, const uint8_t *permissions, size_t permissions_len,
+                                      uint8_t *file, size_t file_len);
+
+/* A file of version 1 is read back: file_len is the file's own length. A load is start-up and then a switch-on of each pair: what was
+ * ordered before it is forgotten. No phy speaks, no right is asked and no set is made: who may load is the caller's matter. Refusals: 1, 31 to
+ * 35, 37. Writes all of permissions. */
+struct small_loaded small_load_version_1(uint8_t *permissions, size_t permissions_len, const uint8_t *file, size_t file_len);
+
+/* The reader of version 2, which takes files of version 1 too. Refusals: 1, 31, 33 to 39. Writes all of permissions and, from version 2, bytes 0
+ * and 1 of every phy's record; from version 1 it leaves phys as it is. */
+struct small_loaded small_load_version_2(uint8_t *phys, size_t phys_len, uint8_t *permissions, size_t permissions_len,
+                                       const uint8_t *file, size_t file_len);
 
 #ifdef __cplusplus
 }

@@ -24,8 +24,8 @@ enum { PHYS = 128, ROUTES = 1024, RECORD = 16, ROUTE = 12, REPORT = 63, BATCH = 
 
 static uint8_t phys[PHYS * RECORD], routes[ROUTES * ROUTE], permissions[GROUPS * ROW];
 static uint8_t address[8], frame[28], out[28], set[16], request[12 + 16 * REPORT], response[1020];
-static uint8_t sheet[88012];
-static size_t phys_len, permissions_len, frame_len, request_len, sheet_len;
+static uint8_t sheet[88012], file[16400];
+static size_t phys_len, permissions_len, frame_len, request_len, sheet_len, file_len;
 static uint32_t phy, number, carried, device_type, attached_phy, expander_changes, phy_changes;
 
 static void start_up(void) {
@@ -85,6 +85,30 @@ static void export(void) {
     struct NAMED(exported) answer = CALLEE(NAMED(export))(permissions, permissions_len, sheet, sheet_len);
     refusal = answer.refusal;
     done = answer.length;
+}
+
+static void save_version_1(void) {
+    struct NAMED(saved) answer = CALLEE(NAMED(save_version_1))(permissions, permissions_len, file, file_len);
+    refusal = answer.refusal;
+    done = answer.length;
+}
+
+static void save_version_2(void) {
+    struct NAMED(saved) answer = CALLEE(NAMED(save_version_2))(phys, phys_len, permissions, permissions_len, file, file_len);
+    refusal = answer.refusal;
+    done = answer.length;
+}
+
+static void load_version_1(void) {
+    struct NAMED(loaded) answer = CALLEE(NAMED(load_version_1))(permissions, permissions_len, file, file_len);
+    refusal = answer.refusal;
+    done = answer.version;
+}
+
+static void load_version_2(void) {
+    struct NAMED(loaded) answer = CALLEE(NAMED(load_version_2))(phys, phys_len, permissions, permissions_len, file, file_len);
+    refusal = answer.refusal;
+    done = answer.version;
 }
 
 /* The largest tables. All phys are ready, participate and are of group 1, which reaches all groups; priorities and addresses
@@ -345,6 +369,61 @@ static void nothing_on(void) {
     sheet_len = SHEET_MOST;
 }
 
+/* The longest files: every pair, by orders from start-up, and every phy. */
+enum { FILE_1 = 2 * PAIRS + 12, FILE_2 = 2 * PAIRS + 3 * PHYS + 14 };
+
+static void every_pair(void) {
+    all_pairs();
+    NAMED(import)(phys, phys_len, permissions, permissions_len, phy, carried, sheet, sheet_len);
+    file_len = sizeof file;
+}
+
+static void no_pair(void) {
+    file_len = sizeof file;
+}
+
+static void last_row_one_way(void) {
+    every_pair();
+    permissions[sizeof permissions - 1] &= 0xfb;
+}
+
+static void last_zone_reserved(void) {
+    every_pair();
+    phys[RECORD * (PHYS - 1)] |= 0x20;
+}
+
+static void room_too_little(void) {
+    every_pair();
+    file_len = sizeof file - 1;
+}
+
+static void longest_1(void) {
+    every_pair();
+    file_len = NAMED(save_version_1)(permissions, permissions_len, file, file_len).length;
+    NAMED(start_up)(permissions, permissions_len);
+}
+
+static void longest_2(void) {
+    every_pair();
+    file_len = NAMED(save_version_2)(phys, phys_len, permissions, permissions_len, file, file_len).length;
+    NAMED(start_up)(permissions, permissions_len);
+}
+
+static void last_pair_turned(void) {
+    longest_1();
+    file[2 * PAIRS - 1] = 2;
+}
+
+static void last_zone_of_file_reserved(void) {
+    longest_2();
+    file[2 * PAIRS + 3 * PHYS - 2] |= 0x20;
+}
+
+static void file_cut(void) {
+    longest_1();
+    file_len = 11;
+}
+
 #define TRIAL(call, ...) {SHELF #call, call, (code *)NAMED(call), __VA_ARGS__}
 
 static const struct trial trials[] = {
@@ -397,6 +476,26 @@ static const struct trial trials[] = {
     TRIAL(export, nothing_on, 0, 0),
     TRIAL(export, little_room, 3, 0),
     TRIAL(export, permissions_cut, 1, 0),
+    TRIAL(save_version_1, every_pair, 0, FILE_1),
+    TRIAL(save_version_1, no_pair, 0, 12),
+    TRIAL(save_version_1, last_row_one_way, 40, 0),
+    TRIAL(save_version_1, room_too_little, 3, 0),
+    TRIAL(save_version_1, permissions_cut, 1, 0),
+    TRIAL(save_version_2, every_pair, 0, FILE_2),
+    TRIAL(save_version_2, no_pair, 0, 3 * PHYS + 14),
+    TRIAL(save_version_2, last_row_one_way, 40, 0),
+    TRIAL(save_version_2, last_zone_reserved, 41, 0),
+    TRIAL(save_version_2, room_too_little, 3, 0),
+    TRIAL(save_version_2, phys_cut, 1, 0),
+    TRIAL(load_version_1, longest_1, 0, 1),
+    TRIAL(load_version_1, longest_2, 32, 0),
+    TRIAL(load_version_1, last_pair_turned, 37, 0),
+    TRIAL(load_version_1, file_cut, 31, 0),
+    TRIAL(load_version_2, longest_2, 0, 2),
+    TRIAL(load_version_2, longest_1, 0, 1),
+    TRIAL(load_version_2, last_zone_of_file_reserved, 39, 0),
+    TRIAL(load_version_2, last_pair_turned, 37, 0),
+    TRIAL(load_version_2, file_cut, 31, 0),
 };
 
 int main(void) {

@@ -3,6 +3,8 @@ use boundary::AnsweredC;
 use boundary::ElectedC;
 use boundary::OpenedC;
 use boundary::ToldC;
+use boundary_files::LoadedC;
+use boundary_files::SavedC;
 use boundary_sheets::ExportedC;
 use boundary_sheets::ImportedC;
 ghost use mathlib.Core.Path.{_≡_};
@@ -12,7 +14,10 @@ ghost use Rattle.election.specs.Election.{electOut};
 ghost use Rattle.opens.specs.Open.{openOut};
 ghost use Rattle.broadcasts.specs.Broadcasts.{primitiveOut, broadcastOut};
 ghost use Rattle.exports.specs.Export.{exportOut};
+ghost use Rattle.version_1.specs.Version1.{saveOut, loadOut};
+ghost use Rattle.version_2.specs.Version2.{saveWholeOut, loadWholeOut};
 ghost use Rattle.boundary.specs.C.{given, inC, electedFields, openedFields, toldFields, answeredFields, identifyOutC, counted, smpOutC};
+ghost use Rattle.boundary_files.specs.FilesC.{savedFields, loadedFields};
 ghost use Rattle.boundary_sheets.specs.SheetsC.{importedFields, exportedFields, importOutC};
 
 #[no_mangle]
@@ -137,4 +142,36 @@ pub extern "C" fn shelf_export(permissions: &[u8], sheet: &mut [u8]) -> Exported
     ensures { λ r. ⌜ given (exportedFields r) (now (sheet .exit) ∷ []) ≡ inC 1 (exportOut 16 (now (permissions .entry)) (now (sheet .entry))) ⌝ }
 {
     boundary_sheets::export_c(16, permissions, sheet)
+}
+
+#[no_mangle]
+pub extern "C" fn shelf_save_version_1(permissions: &[u8], file: &mut [u8]) -> SavedC
+    ensures { λ r. ⌜ given (savedFields r) (now (file .exit) ∷ []) ≡ inC 1 (saveOut 16 (now (permissions .entry)) (now (file .entry))) ⌝ }
+{
+    boundary_files::save_version_1_c(16, permissions, file)
+}
+
+#[no_mangle]
+pub extern "C" fn shelf_save_version_2(phys: &[u8], permissions: &[u8], file: &mut [u8]) -> SavedC
+    ensures { λ r. ⌜ given (savedFields r) (now (file .exit) ∷ []) ≡ inC 1 (saveWholeOut 16 (now (phys .entry)) (now (permissions .entry)) (now (file .entry))) ⌝ }
+{
+    boundary_files::save_version_2_c(16, phys, permissions, file)
+}
+
+#[no_mangle]
+pub extern "C" fn shelf_load_version_1(permissions: &mut [u8], file: &[u8]) -> LoadedC
+    ensures { λ r. ⌜ given (loadedFields r) (now (permissions .exit) ∷ []) ≡ inC 1 (loadOut 16 (now (permissions .entry)) (now (file .entry))) ⌝ }
+{
+    boundary_files::load_version_1_c(16, permissions, file)
+}
+
+#[no_mangle]
+pub extern "C" fn shelf_load_version_2(
+    phys: &mut [u8],
+    permissions: &mut [u8],
+    file: &[u8],
+) -> LoadedC
+    ensures { λ r. ⌜ given (loadedFields r) (now (phys .exit) ∷ now (permissions .exit) ∷ []) ≡ inC 1 (loadWholeOut 16 (now (phys .entry)) (now (permissions .entry)) (now (file .entry))) ⌝ }
+{
+    boundary_files::load_version_2_c(16, phys, permissions, file)
 }

@@ -38,7 +38,7 @@ module _ (w : ℕ) (source : OutsideGroup) where
       valid-order a b v t (firstRefusal (orderChecks w source t a b)) refl (behind (setBoth w t a b v) rest) (h (setBoth w t a b v) rest)
 
   -- and each order of any number of lines
-  valid-lines : (most : ℕ) (t s : List ℕ) → Valid w (doneOrders (importLines w source most t s))
+  pub valid-lines : (most : ℕ) (t s : List ℕ) → Valid w (doneOrders (importLines w source most t s))
   unfolding importLines
   valid-lines zero t s = tt
   valid-lines (suc most) t [] = tt

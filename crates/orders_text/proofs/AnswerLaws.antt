@@ -51,14 +51,26 @@ unfolding stopText lineWord colon
 stop-done number cause t a t₁ b t₂ c t₃ d t₄ e t₅ p q r s u =
     (behind (behind (behind (behind p (q .0)) r) (s .0)) u, omega (arith, p .ends, r .ends, u .ends))
 
+-- ---- a call's answer that is a text's length, with the text at the front of its buffer
+pub answer-wrote : (s t : List ℕ) (n : ℕ) (t₁ : List ℕ) → length s ≤ length t
+    → out (answer (n ∷ [])) (t₁ ∷ []) ≡ out (answer (length s ∷ [])) ((s ++ drop (length s) t) ∷ []) → Wrote t 0 s n t₁
+unfolding written
+answer-wrote s t n t₁ h e =
+    let en : n ≡ length s = cc in
+    let et : t₁ ≡ s ++ drop (length s) t = cc in
+    record {
+      ends = omega arith;
+      wrote = et ∙ ap (λ (m : ℕ). s ++ drop m t) (sym (zero-add (length s))) ∙ sym (sets-eq s t 0 (omega arith));
+    }
+
 -- ---- the two calls are not refused
 
 -- a refusal has no values, and an answer has one more than its own
-abbrev values : Answer → ℕ
+abbrev pub values : Answer → ℕ
 values (refusal n) = 0
 values (answer vs) = suc (length vs)
 
-abbrev answered : Out → Answer
+abbrev pub answered : Out → Answer
 answered (out a bs) = a
 
 export-clear : (p t : List ℕ) → length p ≡ 2048 → 88011 ≤ length t → firstRefusal (exportChecks 16 p (length t)) ≡ 0
@@ -76,21 +88,10 @@ module _ (p t : List ℕ) (r : Exported) (t₁ : List ℕ) (sized : length p ≡
   exported = rw (export-clear p t sized room) at e
 
   pub pairs-done : (n : ℕ) → r ≡ Written n → Wrote t 0 (sheetText 16 p) n t₁ × (n ≤ 88011)
-  unfolding written
   pairs-done n k =
       let l = sheet-length 16 p (omega arith) (omega arith) in
-      let g : out (answer (n ∷ [])) (t₁ ∷ []) ≡ out (answer (length (sheetText 16 p) ∷ [])) ((sheetText 16 p ++ drop (length (sheetText 16 p)) t) ∷ []) = rw k at exported in
-      let en : n ≡ length (sheetText 16 p) = cc in
-      let et : t₁ ≡ sheetText 16 p ++ drop (length (sheetText 16 p)) t = cc in (
-        record {
-          ends = omega arith;
-          wrote =
-              et
-              ∙ ap (λ (m : ℕ). sheetText 16 p ++ drop m t) (sym (zero-add (length (sheetText 16 p))))
-              ∙ sym (sets-eq (sheetText 16 p) t 0 (omega arith));
-        },
-        omega arith,
-      )
+      let w = answer-wrote (sheetText 16 p) t n t₁ (omega arith) (rw k at exported) in
+      (w, omega (arith, w .ends))
 
   pub export-taken : (n : ℕ) → r ≡ NotExported n → ⊥
   export-taken n k = absurd (omega (arith, ap values (ap answered (rw k at exported))))

@@ -56,7 +56,7 @@ fn put_cause(cause: u8, text: &mut [u8], at: usize) -> usize
 }
 
 // The line at which an import stopped.
-fn put_stop(number: u32, cause: u8, text: &mut [u8]) -> usize
+pub fn put_stop(number: u32, cause: u8, text: &mut [u8]) -> usize
     requires { ⌜ 128 ≤ length (now text) ⌝ }
     ensures { λ r. ⌜ Wrote (now (text .entry)) 0 (stopText number cause) r (now (text .exit)) × (r ≤ 128) ⌝ }
 {
@@ -67,7 +67,7 @@ fn put_stop(number: u32, cause: u8, text: &mut [u8]) -> usize
     lines::put_byte(b'\n', text, d)
 }
 
-fn put_too_long(text: &mut [u8]) -> usize
+pub fn put_too_long(text: &mut [u8]) -> usize
     requires { ⌜ 128 ≤ length (now text) ⌝ }
     ensures { λ r. ⌜ Wrote (now (text .entry)) 0 tooLongText r (now (text .exit)) × (r ≤ 128) ⌝ }
 {
@@ -75,7 +75,7 @@ fn put_too_long(text: &mut [u8]) -> usize
 }
 
 // The permitted pairs. The buffers are as large as an export asks, so it is not refused.
-fn put_pairs(permissions: &[u8], text: &mut [u8]) -> usize
+pub fn put_pairs(permissions: &[u8], text: &mut [u8]) -> usize
     requires { ⌜ (length (now permissions) ≡ 2048) × (88011 ≤ length (now text)) ⌝ }
     ensures { λ r. ⌜ Wrote (now (text .entry)) 0 (sheetText 16 (now (permissions .entry))) r (now (text .exit)) × (r ≤ 88011) ⌝ }
 {
@@ -86,7 +86,7 @@ fn put_pairs(permissions: &[u8], text: &mut [u8]) -> usize
 }
 
 // The sheet's orders, into a fresh table, as from phy 0 of the bench rack.
-fn give_orders(sheet: &[u8], permissions: &mut [u8]) -> Imported
+pub fn give_orders(sheet: &[u8], permissions: &mut [u8]) -> Imported
     requires { ⌜ (length (now sheet) ≤ 88011) × (length (now permissions) ≡ 2048) ⌝ }
     ensures { λ r. ⌜ Leaves 16 (given (now (sheet .entry))) (startTable 16) r (now (permissions .exit)) ⌝ }
 {

@@ -109,7 +109,7 @@ fn word_end(line: &[u8], at: usize) -> usize
     at
 }
 
-fn same(a: &[u8], b: &[u8]) -> bool
+pub fn same(a: &[u8], b: &[u8]) -> bool
     ensures { λ r. ⌜ r ≡ words.same (now (a .entry)) (now (b .entry)) ⌝ }
 {
     if a.len() != b.len() {

@@ -1,18 +1,18 @@
--- `orders::take_sheet` meets its contract.
+-- `whole_input::take_input` meets its contract.
 -- Assumes nothing.
 use mathlib.Core.Path.{_≡_}
 use Prim.Native.Nat.{_-_, _≤_}
 use lib.ListN.{length}
 use borrow.Author.Needs.{needs}
-use Rattle.orders.proofs.take_sheet.Statement.{statement}
-use Rattle.orders.proofs.take_sheet.Tie as tie
+use Rattle.whole_input.proofs.take_input.Statement.{statement}
+use Rattle.whole_input.proofs.take_input.Tie as tie
 
 abbrev Inv-loop : tie.InvT-loop
-Inv-loop sheet₀ end have₀ sheet have =
-    (length sheet₀ ≡ length sheet) × (end ≡ length sheet) × (have ≤ end)
+Inv-loop input₀ end have₀ input have =
+    (length input₀ ≡ length input) × (end ≡ length input) × (have ≤ end)
 
 abbrev μ-loop : tie.MeasureT-loop
-μ-loop sheet₀ end have₀ sheet have = end - have
+μ-loop input₀ end have₀ input have = end - have
 
 loop-holds : tie.Need-loop-holds Inv-loop μ-loop
 loop-holds c = search needs
@@ -68,8 +68,8 @@ same-length-3 c = search needs
 returns-3 : tie.Need-returns-3 Inv-loop μ-loop
 returns-3 c = search needs
 
-pub take-sheet-spec : {M : Type 1} → statement M
-take-sheet-spec =
+pub take-input-spec : {M : Type 1} → statement M
+take-input-spec =
     tie.close
     (tie.spec
     Inv-loop

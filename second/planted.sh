@@ -23,8 +23,9 @@ trap 'rm -rf "$work"' EXIT
 export CARGO_TARGET_DIR="$work/target"
 # What an error leaves unused is no news.
 export RUSTFLAGS='--cap-lints allow'
-# Most of the time goes into the builds, and an error leaves all but a few functions as they were.
-export CARGO_INCREMENTAL=1 CARGO_PROFILE_RELEASE_CODEGEN_UNITS=256 CARGO_PROFILE_RELEASE_OPT_LEVEL=1
+# Most of the time goes into the builds, and an error leaves all but a few functions as they were. Nearly every error is found
+# within a few thousand calls, which take less time than to optimize for them.
+export CARGO_INCREMENTAL=1 CARGO_PROFILE_RELEASE_CODEGEN_UNITS=256 CARGO_PROFILE_RELEASE_OPT_LEVEL=0 CARGO_PROFILE_RELEASE_DEBUG=0
 
 large() { plant large "$large_driver" "$@"; }
 small() { plant small "$small_driver" "$@"; }
@@ -238,71 +239,58 @@ large 'console: 25 before 21' console.rs 'rows\.len() < ROWS_ROOM,' 'rows.len() 
 large 'console: a group that is on is read as its bit' console.rs 'byte >> j & 1)' 'byte \& 1 << j)'
 # Zone sheets: what a careless reader takes, and what a careless writer leaves out.
 for shelf in large small; do
-    $shelf 'sheets: the right asked once for all' sheets.rs 'let mut lines = 0;' \
-        'let mut lines = 0; let source = if may_change_zoning(rows, source) { Group::low_7_bits(1) } else { source };'
-    $shelf 'sheets: numbers cut to a byte' sheets.rs 'number\.parse()\.ok()\.and_then(Group::from_outside)' \
-        'number.parse::<u128>().ok().and_then(|number| Group::from_outside(number as u8))'
     $shelf 'sheets: the last group out of range' sheets.rs 'FIRST_NAMED\.\.groups_of_table(WIDTH)' \
         'FIRST_NAMED..groups_of_table(WIDTH) - 1'
-    $shelf 'sheets: only a < b exported' sheets.rs '(a\.\.groups_of_table(WIDTH))' '(a + 1..groups_of_table(WIDTH))'
 done
+large 'sheets: the right asked once for all' sheets.rs 'let mut lines = 0;' \
+    'let mut lines = 0; let source = if may_change_zoning(rows, source) { Group::low_7_bits(1) } else { source };'
 large 'sheets: leading zeros taken' sheets.rs 'digits && (field == .*' 'digits'
-large 'sheets: 00 read as 0' sheets.rs 'field == "0" ||' 'field.bytes().all(|byte| byte == 48) ||'
-large 'sheets: a sign taken' sheets.rs 'field\.bytes()\.all(' 'field.trim_start_matches(char::from(43)).bytes().all('
-large 'sheets: the byte after 9 is a digit' sheets.rs 'byte\.is_ascii_digit()' '(48..=58).contains(\&byte)'
-large 'sheets: spaces taken' sheets.rs '\[fields\.next()?, fields\.next()?, fields\.next()?\]' \
-    '[fields.next()?, fields.next()?, fields.next()?].map(|field| field.trim_matches(char::from(32)))'
 large 'sheets: a fourth field passed over' sheets.rs 'fields\.next()\.is_none()\.then_some(three)' 'Some(three)'
 large 'sheets: any number but 0 is on' sheets.rs '"1" => Some(true),' 'field if is_number(field) \&\& field != "0" => Some(true),'
-large 'sheets: a lone CR ends a line' sheets.rs 'for line in sheet\.split' \
-    'let text: Vec<u8> = (0..sheet.len()).map(|i| if sheet[i] == 13 \&\& sheet.get(i + 1) != Some(\&LF) { LF } else { sheet[i] }).collect(); for line in text.split'
-large 'sheets: a lone CR ends the last line' sheets.rs 'str::from_utf8(line)\.ok()?\..*' \
-    'str::from_utf8(line).ok()?; let text = text.strip_suffix(char::from(10)).or(text.strip_suffix(char::from(13)))?;'
 large 'sheets: the last line taken without its end' sheets.rs 'str::from_utf8(line)\.ok()?\..*' \
     'str::from_utf8(line).ok()?; let text = text.strip_suffix(char::from(10)).unwrap_or(text);'
-large 'sheets: CR CR LF taken' sheets.rs 'text\.strip_suffix(.*)\.unwrap_or(text);' 'text.trim_end_matches(char::from(13));'
 large 'sheets: LF alone does not end a line' sheets.rs '\.unwrap_or(text);' '?;'
 large 'sheets: an empty line passed over' sheets.rs 'split_inclusive(|&byte| byte == LF)' \
     'split_inclusive(|\&byte| byte == LF).filter(|line| **line != [LF])'
 large 'sheets: numbers modulo 2^64' sheets.rs 'number\.parse()\.ok()\.and_then(Group::from_outside)' \
     'u8::try_from(number.bytes().fold(0, |sum: u64, digit| sum.wrapping_mul(10).wrapping_add(u64::from(digit - 48)))).ok().and_then(Group::from_outside)'
-large 'sheets: a number of thirty digits is bad text' sheets.rs '!is_number(a) ||' 'a.len() > 29 || !is_number(a) ||'
 large 'sheets: group 1 taken' sheets.rs 'FIRST_NAMED\.\.groups_of_table(WIDTH)' '1..groups_of_table(WIDTH)'
 large 'sheets: no right before no such group' sheets.rs 'let (a, b) = (named_group' \
     'fail_if(!may_change_zoning(rows, source), Cause::NoRight)?; let (a, b) = (named_group'
 large 'sheets: no such group before bad text' sheets.rs 'let on = switch(on)' \
     'for number in [a, b] { if is_number(number) { named_group::<WIDTH>(number)?; } } let on = switch(on)'
-large 'sheets: a line after the failing one done' sheets.rs 'return Imported' \
-    'sheet.split_inclusive(|\&byte| byte == LF).nth(lines as usize).map(|line| obey_line(rows, source, line)); return Imported'
 large "sheets: the line's number one off" sheets.rs 'return Imported { refusal: 0, lines,' 'return Imported { refusal: 0, lines: lines - 1,'
-large 'sheets: the number of lines cut to a byte' sheets.rs '{ refusal: 0, lines, cause: 0 }' '{ refusal: 0, lines: lines % 256, cause: 0 }'
 large 'sheets: the lines before the failing one undone' sheets.rs 'Ok(obey(rows, source, sheet))' \
     'let before = rows.to_vec(); let answer = obey(rows, source, sheet); if answer.cause != 0 { rows.copy_from_slice(\&before); } Ok(answer)'
-large 'sheets: a stop is a refusal' sheets.rs 'Ok(obey(rows, source, sheet))' \
-    'let answer = obey(rows, source, sheet); Ok(if answer.cause == 0 { answer } else { Imported { refusal: 5, ..answer } })'
-large 'sheets: an empty sheet needs the right' sheets.rs 'let mut lines = 0;' \
-    'if sheet.is_empty() \&\& !may_change_zoning(rows, source) { return Imported { refusal: 0, lines: 0, cause: 3 }; } let mut lines = 0;'
-large 'sheets: what is carried not read' sheets.rs 'source_from_outside(&arriving, carried)?' 'arriving.group'
 large 'sheets: carried modulo 128' sheets.rs 'source_from_outside(&arriving, carried)' 'source_from_outside(\&arriving, carried \& 0x7f)'
-large 'sheets: carried of 256 and more cut to a byte' sheets.rs 'u8::try_from(carried)\.map_err(|_| Refusal::Kind)?' 'carried as u8'
 large 'sheets: 3 before 2' sheets.rs 'let place = arriving' 'refuse_if(sheet.len() > MOST, Refusal::Room)?; let place = arriving'
-large 'sheets: 7 before 3' sheets.rs 'refuse_if(sheet\.len() > MOST' 'ready(\&phys[place])?; refuse_if(sheet.len() > MOST'
-large 'sheets: 5 before 7' sheets.rs 'let arriving = ready' 'refuse_if(carried > 255, Refusal::Kind)?; let arriving = ready'
 large 'sheets: 88,012 bytes taken' sheets.rs 'sheet\.len() > MOST' 'sheet.len() > MOST + 1'
-large 'sheets: 88,011 bytes refused' sheets.rs 'sheet\.len() > MOST' 'sheet.len() >= MOST'
 large 'sheets: descending' sheets.rs 'named::<WIDTH>()\.flat_map' 'named::<WIDTH>().rev().flat_map'
 large 'sheets: LF instead of CR LF' sheets.rs '{b},1\\r\\n' '{b},1\\n'
 large "sheets: the higher group's row read" sheets.rs 'filter(|&(a, b)| reaches(a, b))' 'filter(|\&(a, b)| reaches(b, a))'
-large 'sheets: pairs that are off exported as well' sheets.rs 'pairs\.filter(.*' \
-    'pairs.map(|(a, b)| format!("{a},{b},{}\\r\\n", u8::from(reaches(a, b))));'
-large 'sheets: what is beyond an export cleared' sheets.rs 'sheet\[\.\.text\.len()\]\.copy' 'sheet.fill(0); sheet[..text.len()].copy'
 large 'sheets: room for what there is is room enough' sheets.rs 'room(sheet, MOST)?;' 'room(sheet, write(rows, \&mut [0; MOST]))?;'
-large 'sheets: an export refused 3 before 1' sheets.rs 'let rows = permission_table(permissions)?;' \
-    'room(sheet, MOST)?; let rows = permission_table(permissions)?;'
 small 'sheets: groups modulo 8' sheets.rs 'number\.parse()\.ok()\.and_then(Group::from_outside)' \
     'number.parse().ok().and_then(Group::from_outside).map(|group| Group::low_7_bits(group.number() % 8))'
-small 'sheets: group 8 taken for the last one' sheets.rs 'number\.parse()\.ok()\.and_then(Group::from_outside)' \
-    'number.parse().ok().map(|number| if number == 8 { 7 } else { number }).and_then(Group::from_outside)'
-small 'sheets: a line above 7 accepted and not written' sheets.rs 'let (a, b) = (named_group' \
-    'if [a, b].iter().all(|number| number.parse().is_ok_and(|group: u8| (2..=127).contains(\&group))) \&\& [a, b].map(str::len) != [1, 1] { return Ok(()); } let (a, b) = (named_group'
+# Saved zoning: what a careless reader takes, a careless writer writes, and refusals in another order.
+large 'files: equal neighbours taken as ascending' saved.rs 'pairs\.is_sorted_by(|one, next| one < next)' \
+    'pairs.is_sorted_by(|one, next| one <= next)'
+small 'files: a > b taken' saved.rs 'a <= b && ' ''
+large 'files: the offset ignored' saved.rs 'refuse_if(self\.offset != 0, Refusal::FileOffset)' 'Ok(())'
+small "files: the file's length field ignored" saved.rs 'self\.length as usize != file\.len() || ' ''
+large 'files: little-endian counts' saved.rs 'u16::from_be_bytes(\[p, q\])' 'u16::from_le_bytes([p, q])'
+small 'files: a write before the last check' saved.rs 'let phys = phy_table_mut(phys)?;' \
+    'let phys = phy_table_mut(phys)?; if file.len() > TRAILER { start_up::<WIDTH>(permissions); }'
+large 'files: version 2 read by the reader of version 1 as version 1' saved.rs 'VERSION_2 => return Err(Refusal::FileVersion2),' \
+    'VERSION_2 => {}'
+large 'files: a version 2 file of 12 or 13 bytes too short' saved.rs 'ok_or(Refusal::FileLengths)' 'ok_or(Refusal::FileTooShort)'
+small 'files: a reserved bit in byte 0 taken' saved.rs 'RESERVED: \[u8; 2\] = \[0xe0, 0x80\]' 'RESERVED: [u8; 2] = [0xc0, 0x80]'
+small "files: a phy's group above 7 taken" saved.rs 'may_be_written::<WIDTH>' 'may_be_written::<16>'
+large 'files: 39 before 38' saved.rs 'let is_in_range = zones\.iter()' \
+    'refuse_if(!zones.iter().all(could_be_written::<WIDTH>), Refusal::FileZone)?; let is_in_range = zones.iter()'
+large 'files: pairs of groups 0 and 1 written' saved.rs '(FIRST_NAMED\.\.groups)\.flat_map' '(0..groups).flat_map'
+small 'files: rows 0 and 1 of any content saved' saved.rs 'is_mutual && rows\[\.\.FIRST_NAMED\] == .*' 'is_mutual'
+large 'files: 41 before 40' saved.rs 'let (phys, rows) = (phy_table(phys)?, permission_table::<WIDTH>(permissions)?);' \
+    '& refuse_if(file.len() >= ROOM \&\& !zones_of(phys).iter().all(could_be_written::<WIDTH>), Refusal::TablePhys)?;'
+small 'files: 40 before 3' saved.rs 'let rows = permission_table::<WIDTH>(permissions)?;' \
+    '& refuse_if(!is_as_described(rows), Refusal::TablePermissions)?;'
 exit $missed

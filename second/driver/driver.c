@@ -35,6 +35,10 @@ static const struct shape shapes[] = {
     {4, 5, 0x1b}, /* smp */
     {2, 3, 0x02}, /* import */
     {0, 2, 0x02}, /* export */
+    {0, 2, 0x02}, /* save_version_1 */
+    {0, 3, 0x04}, /* save_version_2 */
+    {0, 2, 0x01}, /* load_version_1 */
+    {0, 3, 0x03}, /* load_version_2 */
     {1, 2, 0x01}, /* console_phy_zones */
     {4, 1, 0x01}, /* console_single */
     {2, 2, 0x01}, /* console_batch */
@@ -138,6 +142,16 @@ static void exported(struct NAMED(exported) answer) {
     field[1] = answer.length;
 }
 
+static void saved(struct NAMED(saved) answer) {
+    field[0] = answer.refusal;
+    field[1] = answer.length;
+}
+
+static void loaded(struct NAMED(loaded) answer) {
+    field[0] = answer.refusal;
+    field[1] = answer.version;
+}
+
 static void built(struct console_built answer) {
     field[0] = answer.refusal;
     field[1] = answer.length;
@@ -169,11 +183,15 @@ static void make_call(int which) {
         break;
     case 8: imported(NAMED(import)(b[0], len[0], b[1], len[1], n[0], n[1], b[2], len[2])); break;
     case 9: exported(NAMED(export)(b[0], len[0], b[1], len[1])); break;
-    case 10: built(console_phy_zones(b[0], len[0], n[0], b[1], len[1])); break;
-    case 11: built(console_single(b[0], len[0], n[0], n[1], n[2], n[3])); break;
-    case 12: built(console_batch(b[0], len[0], n[0], b[1], len[1], n[1])); break;
-    case 13: built(console_report(b[0], len[0], n[0], n[1])); break;
-    case 14: heard(console_read(b[0], len[0], b[1], len[1])); break;
+    case 10: saved(NAMED(save_version_1)(b[0], len[0], b[1], len[1])); break;
+    case 11: saved(NAMED(save_version_2)(b[0], len[0], b[1], len[1], b[2], len[2])); break;
+    case 12: loaded(NAMED(load_version_1)(b[0], len[0], b[1], len[1])); break;
+    case 13: loaded(NAMED(load_version_2)(b[0], len[0], b[1], len[1], b[2], len[2])); break;
+    case 14: built(console_phy_zones(b[0], len[0], n[0], b[1], len[1])); break;
+    case 15: built(console_single(b[0], len[0], n[0], n[1], n[2], n[3])); break;
+    case 16: built(console_batch(b[0], len[0], n[0], b[1], len[1], n[1])); break;
+    case 17: built(console_report(b[0], len[0], n[0], n[1])); break;
+    case 18: heard(console_read(b[0], len[0], b[1], len[1])); break;
     }
 }
 

@@ -10,6 +10,7 @@ mod console;
 mod discover;
 mod outside;
 mod ports;
+mod saved;
 mod sheets;
 mod small;
 

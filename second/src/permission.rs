@@ -20,7 +20,7 @@ const MANAGEMENT: u8 = 2;
 const GROUP_1: usize = 1;
 
 /// A row in which only group 1 is on.
-const GROUP_1_ALONE: u128 = 1 << GROUP_1;
+pub(crate) const GROUP_1_ALONE: u128 = 1 << GROUP_1;
 
 /// Start-up: group 1 reaches all groups, every other group only group 1.
 pub fn start_up<const WIDTH: usize>(permissions: &mut [u8]) -> u32 {
@@ -87,7 +87,7 @@ fn number_of<const WIDTH: usize>(row: &Row<WIDTH>) -> u128 {
 }
 
 /// The other way round. Bits for groups that the row does not have are lost.
-fn row_of<const WIDTH: usize>(number: u128) -> Row<WIDTH> {
+pub(crate) fn row_of<const WIDTH: usize>(number: u128) -> Row<WIDTH> {
     *number.to_be_bytes().last_chunk().expect("no table is wider")
 }
 
@@ -102,7 +102,7 @@ fn write_one<const WIDTH: usize>(row: &mut Row<WIDTH>, group: usize, on: bool) {
 }
 
 /// Where a group's bit is in a row.
-fn place<const WIDTH: usize>(group: usize) -> (usize, usize) {
+pub(crate) fn place<const WIDTH: usize>(group: usize) -> (usize, usize) {
     (WIDTH - 1 - group / 8, group % 8)
 }
 

@@ -1,4 +1,4 @@
-//! Numbered refusals, in order of checking: 1, 2, 3, 7, 4, 5, 6, 8.
+//! Numbered refusals, in order of checking: 1, 2, 3, 7, 4, 5, 6, 8; and those of saved zoning, 31 to 41, after 1 and 3.
 
 use crate::tables::{PhyRecord, Record};
 
@@ -11,6 +11,17 @@ pub enum Refusal {
     Kind = 5,
     NotParticipating = 6,
     Readiness = 7,
+    FileTooShort = 31,
+    FileVersion2 = 32,
+    FileVersionUnknown = 33,
+    FileLengths = 34,
+    FileOffset = 35,
+    FilePhyCount = 36,
+    FilePair = 37,
+    FilePhy = 38,
+    FileZone = 39,
+    TablePermissions = 40,
+    TablePhys = 41,
     // 8, a response whose length field would pass 255, is never given: see `smp::LONGEST_LENGTH_FIELD`.
 }
 

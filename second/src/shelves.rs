@@ -9,8 +9,8 @@ macro_rules! shelf {
     ($shelf:ident, $width:ident) => {
         pub mod $shelf {
             use super::$width;
-            use crate::{broadcast, bytewise, chains, open, permission, sheets, smp};
-            use crate::{Answered, Exported, Imported, Opened, Told};
+            use crate::{broadcast, bytewise, chains, open, permission, saved, sheets, smp, straight};
+            use crate::{Answered, Exported, Imported, Loaded, Opened, Saved, Told};
 
             pub use crate::links::{elect, identify, leaving};
 
@@ -84,6 +84,22 @@ macro_rules! shelf {
                 sheets::export::<$width>(permissions, sheet)
             }
 
+            pub fn save_version_1(permissions: &[u8], file: &mut [u8]) -> Saved {
+                saved::save_version_1::<$width>(permissions, file)
+            }
+
+            pub fn save_version_2(phys: &[u8], permissions: &[u8], file: &mut [u8]) -> Saved {
+                saved::save_version_2::<$width>(phys, permissions, file)
+            }
+
+            pub fn load_version_1(permissions: &mut [u8], file: &[u8]) -> Loaded {
+                saved::load_version_1::<$width>(permissions, file)
+            }
+
+            pub fn load_version_2(phys: &mut [u8], permissions: &mut [u8], file: &[u8]) -> Loaded {
+                saved::load_version_2::<$width>(phys, permissions, file)
+            }
+
             /// Another way to the same answer, for timing only.
             pub fn primitive_by_chains(
                 phys: &[u8],
@@ -122,6 +138,26 @@ macro_rules! shelf {
             /// Another way to the same answer, for timing only.
             pub fn export_by_bytes(permissions: &[u8], sheet: &mut [u8]) -> Exported {
                 bytewise::export::<$width>(permissions, sheet)
+            }
+
+            /// Another way to the same answer, for timing only.
+            pub fn save_version_1_straight(permissions: &[u8], file: &mut [u8]) -> Saved {
+                straight::save_version_1::<$width>(permissions, file)
+            }
+
+            /// Another way to the same answer, for timing only.
+            pub fn save_version_2_straight(phys: &[u8], permissions: &[u8], file: &mut [u8]) -> Saved {
+                straight::save_version_2::<$width>(phys, permissions, file)
+            }
+
+            /// Another way to the same answer, for timing only.
+            pub fn load_version_1_straight(permissions: &mut [u8], file: &[u8]) -> Loaded {
+                straight::load_version_1::<$width>(permissions, file)
+            }
+
+            /// Another way to the same answer, for timing only.
+            pub fn load_version_2_straight(phys: &mut [u8], permissions: &mut [u8], file: &[u8]) -> Loaded {
+                straight::load_version_2::<$width>(phys, permissions, file)
             }
         }
     };

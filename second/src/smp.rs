@@ -165,7 +165,7 @@ fn configure_phy_zone<const WIDTH: usize>(
 
 /// That a group is not in the table comes after all other causes. But the last of those is 02h as well, so one look at
 /// each descriptor is enough. A byte above 127 is in no table.
-fn may_be_written<const WIDTH: usize>(&[zoning, group]: &[u8; 2]) -> bool {
+pub(crate) fn may_be_written<const WIDTH: usize>(&[zoning, group]: &[u8; 2]) -> bool {
     let participating = zoning & 0x10 != 0;
     usize::from(group) < groups_of_table(WIDTH) && (!participating || group == 1)
 }

@@ -6,7 +6,7 @@
 //!
 //! Some calls come in pairs, on two shelves: where request 04 says so, the library must give both the same bytes. Others are
 //! steps of a round trip from the console to a shelf and back, of which request 06 says what the library must give, or calls
-//! of sheets, of which request 07 does.
+//! of sheets, of which request 07 does, or of files, of which request 08 does.
 //!
 //! Exits with 0 where the two agreed on every field and every byte, and every class of answers was reached.
 
@@ -16,6 +16,7 @@ use second::trial::console::trips::Trip;
 use second::trial::coverage::Coverage;
 use second::trial::generate::{Generator, Together};
 use second::trial::profile::Profile;
+use second::trial::saved::trips::Trip as FileTrip;
 use second::trial::sheets::trips::Trip as SheetTrip;
 use std::io::{BufReader, Read, Write};
 use std::process::{Child, ChildStdin, Command, ExitCode, Stdio};
@@ -253,12 +254,17 @@ fn judge_together(
             trip.judge(profile).map_err(|why| complaint("sheets", why, &trip.calls, &trip.answers))?;
             coverage.count_sheets(&trip);
         }
+        (Together::Files, ..) => {
+            let trip = FileTrip { calls, answers: answers.iter().collect() };
+            trip.judge(profile).map_err(|why| complaint("files", why, &trip.calls, &trip.answers))?;
+            coverage.count_files(&trip);
+        }
         _ => {}
     }
     Ok(())
 }
 
-/// The library's answers to calls that follow one another, where they are not what request 06 or 07 says.
+/// The library's answers to calls that follow one another, where they are not what request 06, 07 or 08 says.
 fn complaint(kind: &str, why: &str, calls: &[&Call], answers: &[&Answer]) -> String {
     let steps = calls.iter().zip(answers);
     let steps = steps.map(|(call, answer)| format!("{}  fields: {:x?}\n", told(call), answer.fields));

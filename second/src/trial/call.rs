@@ -14,6 +14,7 @@ use crate::broadcast::{broadcast_frame, primitive};
 use crate::links::{elect, identify, leaving};
 use crate::open::open;
 use crate::permission::start_up;
+use crate::saved::{load_version_1, load_version_2, save_version_1, save_version_2, Loaded, Saved};
 use crate::sheets::{export, import};
 use crate::smp::smp;
 use crate::tables::{LARGE, SMALL};
@@ -84,6 +85,24 @@ pub enum Call {
         permissions: Vec<u8>,
         sheet: Vec<u8>,
     },
+    SaveVersion1 {
+        permissions: Vec<u8>,
+        file: Vec<u8>,
+    },
+    SaveVersion2 {
+        phys: Vec<u8>,
+        permissions: Vec<u8>,
+        file: Vec<u8>,
+    },
+    LoadVersion1 {
+        permissions: Vec<u8>,
+        file: Vec<u8>,
+    },
+    LoadVersion2 {
+        phys: Vec<u8>,
+        permissions: Vec<u8>,
+        file: Vec<u8>,
+    },
     Console(Console),
 }
 
@@ -120,7 +139,7 @@ pub struct Parts<'a> {
     pub buffers: Vec<(&'static str, &'a [u8])>,
 }
 
-pub const NAMES: [&str; 15] = [
+pub const NAMES: [&str; 19] = [
     "start_up",
     "leaving",
     "identify",
@@ -131,6 +150,10 @@ pub const NAMES: [&str; 15] = [
     "smp",
     "import",
     "export",
+    "save_version_1",
+    "save_version_2",
+    "load_version_1",
+    "load_version_2",
     "console_phy_zones",
     "console_single",
     "console_batch",
@@ -186,6 +209,18 @@ impl Call {
                 vec![("phys", phys), ("permissions", permissions), ("sheet", sheet)],
             ),
             Call::Export { permissions, sheet } => (9, vec![], vec![("permissions", permissions), ("sheet", sheet)]),
+            Call::SaveVersion1 { permissions, file } => {
+                (10, vec![], vec![("permissions", permissions), ("file", file)])
+            }
+            Call::SaveVersion2 { phys, permissions, file } => {
+                (11, vec![], vec![("phys", phys), ("permissions", permissions), ("file", file)])
+            }
+            Call::LoadVersion1 { permissions, file } => {
+                (12, vec![], vec![("permissions", permissions), ("file", file)])
+            }
+            Call::LoadVersion2 { phys, permissions, file } => {
+                (13, vec![], vec![("phys", phys), ("permissions", permissions), ("file", file)])
+            }
             Call::Console(call) => call.parts(),
         };
         let buffers = buffers.into_iter().map(|(name, bytes)| (name, bytes.as_slice())).collect();
@@ -275,6 +310,22 @@ impl Call {
             Call::Export { permissions, mut sheet } => {
                 let exported = export::<WIDTH>(&permissions, &mut sheet);
                 Answer::new(&[exported.refusal, exported.length].map(u64::from), vec![sheet])
+            }
+            Call::SaveVersion1 { permissions, mut file } => {
+                let Saved { refusal, length } = save_version_1::<WIDTH>(&permissions, &mut file);
+                Answer::new(&[refusal, length].map(u64::from), vec![file])
+            }
+            Call::SaveVersion2 { phys, permissions, mut file } => {
+                let Saved { refusal, length } = save_version_2::<WIDTH>(&phys, &permissions, &mut file);
+                Answer::new(&[refusal, length].map(u64::from), vec![file])
+            }
+            Call::LoadVersion1 { mut permissions, file } => {
+                let Loaded { refusal, version } = load_version_1::<WIDTH>(&mut permissions, &file);
+                Answer::new(&[refusal, version].map(u64::from), vec![permissions])
+            }
+            Call::LoadVersion2 { mut phys, mut permissions, file } => {
+                let Loaded { refusal, version } = load_version_2::<WIDTH>(&mut phys, &mut permissions, &file);
+                Answer::new(&[refusal, version].map(u64::from), vec![phys, permissions])
             }
             Call::Console(call) => call.model(),
         }

@@ -25,20 +25,20 @@ impl Console {
     pub(super) fn parts(&self) -> (u8, Numbers, Buffers<'_>) {
         match self {
             Console::PhyZones { request, first_phy, entries } => {
-                (10, vec![("first_phy", *first_phy)], vec![("request", request), ("entries", entries)])
+                (14, vec![("first_phy", *first_phy)], vec![("request", request), ("entries", entries)])
             }
             Console::Single { request, a, b, on, complete } => {
-                (11, vec![("a", *a), ("b", *b), ("on", *on), ("complete", *complete)], vec![("request", request)])
+                (15, vec![("a", *a), ("b", *b), ("on", *on), ("complete", *complete)], vec![("request", request)])
             }
             Console::Batch { request, first_group, choices, complete } => (
-                12,
+                16,
                 vec![("first_group", *first_group), ("complete", *complete)],
                 vec![("request", request), ("choices", choices)],
             ),
             Console::Report { request, first_group, count } => {
-                (13, vec![("first_group", *first_group), ("count", *count)], vec![("request", request)])
+                (17, vec![("first_group", *first_group), ("count", *count)], vec![("request", request)])
             }
-            Console::Read { response, rows } => (14, vec![], vec![("response", response), ("rows", rows)]),
+            Console::Read { response, rows } => (18, vec![], vec![("response", response), ("rows", rows)]),
         }
     }
 

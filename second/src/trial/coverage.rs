@@ -4,16 +4,17 @@ use super::arrival::{that_apply, Arrival, Classes};
 use super::call::{Answer, Call, NAMES};
 use super::console::{self, trips::Trip};
 use super::profile::Profile;
+use super::saved::{self, trips::Trip as FileTrip};
 use super::sheets::{self, trips::Trip as SheetTrip};
 use super::{alike, apart, discover, outside, ports, small};
 use crate::smp::{CONFIGURE_PHY_ZONE, CONFIGURE_ZONE_PERMISSION, DISCOVER, REPORT_ZONE_PERMISSION};
 use crate::speaking::source_from_outside;
 use crate::tables::{phy_table, route_table, PhyRecord};
-use std::collections::BTreeMap;
+use std::collections::{BTreeMap, BTreeSet};
 use std::fmt;
 
 /// All classes that a run must reach on either shelf, by call. Refusal 8 has none: nothing provokes it.
-const REQUIRED: [(&str, &[&str]); 19] = [
+const REQUIRED: [(&str, &[&str]); 23] = [
     ("start_up", &["written", "refused 1"]),
     ("leaving", &["left", "refused 1", "refused 2", "refused 7"]),
     (
@@ -124,6 +125,10 @@ const REQUIRED: [(&str, &[&str]); 19] = [
     ("smp", &WRONG_SIZE),
     ("import", &WRONG_SIZE),
     ("export", &WRONG_SIZE),
+    ("save_version_1", &WRONG_SIZE),
+    ("save_version_2", &WRONG_SIZE),
+    ("load_version_1", &WRONG_SIZE),
+    ("load_version_2", &WRONG_SIZE),
 ];
 
 /// Of refusal 1, where the size of the permission table is its only cause.
@@ -135,16 +140,22 @@ const WRONG_SIZE: [&str; 3] =
 pub struct Coverage {
     profile: Profile,
     answers: BTreeMap<(usize, &'static str), u64>,
+    /// The single-byte damages of the sweep that were loaded, by reader.
+    swept: BTreeSet<(usize, usize)>,
 }
 
 impl Coverage {
     pub fn new(profile: Profile) -> Coverage {
-        Coverage { profile, answers: BTreeMap::new() }
+        Coverage { profile, answers: BTreeMap::new(), swept: BTreeSet::new() }
     }
 
     pub fn count(&mut self, call: &Call, answer: &Answer) {
         let place = usize::from(call.parts().place);
         self.count_all(place, classes(self.profile, call, answer));
+        if let Call::LoadVersion1 { file, .. } | Call::LoadVersion2 { file, .. } = call {
+            let number = saved::sweep::number_of(self.profile, file).filter(|_| answer.refusal() != 1);
+            self.swept.extend(number.map(|number| (place, number)));
+        }
     }
 
     /// Two calls that are judged together count in further classes.
@@ -165,6 +176,12 @@ impl Coverage {
         self.count_all(place, trip.classes(self.profile));
     }
 
+    /// So do calls of files.
+    pub fn count_files(&mut self, trip: &FileTrip) {
+        let place = usize::from(trip.calls[0].parts().place);
+        self.count_all(place, trip.classes(self.profile));
+    }
+
     fn count_all(&mut self, place: usize, classes: Classes) {
         for class in classes {
             *self.answers.entry((place, class)).or_default() += 1;
@@ -175,7 +192,7 @@ impl Coverage {
     pub fn missing(&self) -> Vec<String> {
         let place = |name| NAMES.iter().position(|known| *known == name).expect("a call's name");
         type Required = &'static [(&'static str, &'static [&'static str])];
-        let of_both: [Required; 7] = [
+        let of_both: [Required; 8] = [
             &REQUIRED,
             &outside::REQUIRED,
             &discover::REQUIRED,
@@ -183,14 +200,20 @@ impl Coverage {
             &apart::REQUIRED,
             &console::classes::REQUIRED,
             &sheets::classes::REQUIRED,
+            &saved::classes::REQUIRED,
         ];
         let of_one: &[Required] = match self.profile {
-            Profile::Large => &[&console::classes::REQUIRED_OF_LARGE, &sheets::classes::REQUIRED_OF_LARGE],
+            Profile::Large => &[
+                &console::classes::REQUIRED_OF_LARGE,
+                &sheets::classes::REQUIRED_OF_LARGE,
+                &saved::classes::REQUIRED_OF_LARGE,
+            ],
             Profile::Small => &[
                 &small::REQUIRED,
                 &alike::REQUIRED_OF_SMALL,
                 &console::classes::REQUIRED_OF_SMALL,
                 &sheets::classes::REQUIRED_OF_SMALL,
+                &saved::classes::REQUIRED_OF_SMALL,
             ],
         };
         let all = of_both
@@ -199,7 +222,18 @@ impl Coverage {
             .flat_map(|required| required.iter())
             .flat_map(|(name, classes)| classes.iter().map(move |class| (*name, *class)));
         let missing = all.filter(|&(name, class)| !self.answers.contains_key(&(place(name), class)));
-        missing.map(|(name, class)| format!("{name}: {class}")).collect()
+        missing.map(|(name, class)| format!("{name}: {class}")).chain(self.not_swept(place)).collect()
+    }
+
+    /// Every single-byte damage of the sweep's files is a class of its own, at each reader.
+    fn not_swept(&self, place: impl Fn(&'static str) -> usize) -> Vec<String> {
+        let all = saved::sweep::count(self.profile);
+        let missing = ["load_version_1", "load_version_2"].map(|name| {
+            let place = place(name);
+            let missing = (0..all).filter(|&number| !self.swept.contains(&(place, number))).count();
+            (missing > 0).then(|| format!("{name}: {missing} of {all} single-byte damages"))
+        });
+        missing.into_iter().flatten().collect()
     }
 }
 
@@ -208,6 +242,7 @@ impl fmt::Display for Coverage {
         for ((place, class), count) in &self.answers {
             writeln!(f, "{:18} {class:56} {count:9}", NAMES[*place])?;
         }
+        writeln!(f, "{:75} {:9}", "single-byte damages of files, at both readers", self.swept.len())?;
         Ok(())
     }
 }
@@ -227,6 +262,7 @@ fn classes(profile: Profile, call: &Call, answer: &Answer) -> Classes {
     classes.extend(outside::classes(profile, call, answer));
     classes.extend(discover::classes(profile, call, answer));
     classes.extend(sheets::classes::classes(profile, call, answer));
+    classes.extend(saved::classes::classes(profile, call, answer));
     classes
 }
 
@@ -255,6 +291,7 @@ fn class(profile: Profile, call: &Call, answer: &Answer) -> &'static str {
     match answer.refusal() {
         0 => answered(profile, call, answer),
         5 => refused_5(call),
+        number @ 31.. => saved::classes::refused(number),
         number => ["", "refused 1", "refused 2", "refused 3", "refused 4", "", "refused 6", "refused 7", "refused 8"]
             [number as usize],
     }
@@ -298,6 +335,10 @@ fn answered(profile: Profile, call: &Call, answer: &Answer) -> &'static str {
         }
         Call::Import { .. } => sheets::classes::imported(answer),
         Call::Export { .. } => sheets::classes::how_many_exported(profile, answer),
+        Call::SaveVersion1 { .. } | Call::SaveVersion2 { .. } => saved::classes::saved(profile, call, answer),
+        Call::LoadVersion1 { file, .. } | Call::LoadVersion2 { file, .. } => {
+            saved::classes::loaded(profile, file, answer)
+        }
         Call::Console(_) => "the console's",
     }
 }
@@ -477,6 +518,12 @@ mod tests {
                         let trip = SheetTrip { calls, answers };
                         assert_eq!(trip.judge(profile), Ok(()), "{profile}: {:x?}", trip.calls);
                         coverage.count_sheets(&trip);
+                    }
+                    (Together::Files, calls) => {
+                        let (calls, answers) = calls.iter().map(|(call, answer)| (call, answer)).unzip();
+                        let trip = FileTrip { calls, answers };
+                        assert_eq!(trip.judge(profile), Ok(()), "{profile}: {:x?}", trip.calls);
+                        coverage.count_files(&trip);
                     }
                     _ => {}
                 }

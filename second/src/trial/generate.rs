@@ -6,17 +6,21 @@ use super::pairs::pair;
 use super::profile::Profile;
 use super::random::Random;
 use super::requests::{broadcast_frame, damage_frame, open_frame};
+use super::saved;
 use super::sheets;
 use super::shelf::Shelf;
+use crate::saved::ROOM;
 use crate::sheets::MOST;
 use crate::tables::RECORD;
 
-/// Of so many calls how many have a second one beside them, how many begin a round trip, how many begin calls of sheets that
-/// are judged together, and how many others are the console's.
+/// Of so many calls how many have a second one beside them, how many begin a round trip, how many begin calls of sheets or of
+/// files that are judged together, how many are the next of the sweep over damaged files, and how many others are the console's.
 const OF: usize = 200;
 const PAIRS: usize = 6;
 const TRIPS: usize = 4;
 const SHEETS: usize = 3;
+const FILES: usize = 5;
+const SWEEPS: usize = 30;
 const CONSOLE: usize = 8;
 
 /// Calls that were made up together, with the model's answers.
@@ -32,6 +36,7 @@ pub enum Together {
     Pair,
     Trip,
     Sheets,
+    Files,
 }
 
 pub struct Generator {
@@ -39,6 +44,8 @@ pub struct Generator {
     shelf: Shelf,
     /// How many calls the shelf still has before a new one takes its place.
     left: usize,
+    /// How many damaged files of the sweep there were.
+    swept: usize,
 }
 
 /// What may be wrong with a call, beside its frame or request.
@@ -55,7 +62,7 @@ impl Generator {
     pub fn new(profile: Profile, seed: u64) -> Generator {
         let mut random = Random::new(seed);
         let shelf = Shelf::random(&mut random, profile);
-        Generator { random, shelf, left: 1 }
+        Generator { random, shelf, left: 1, swept: 0 }
     }
 
     pub fn profile(&self) -> Profile {
@@ -69,7 +76,7 @@ impl Generator {
             self.left = self.random.between(1, 60);
         }
         self.left -= 1;
-        let mut call = match self.random.below(50) {
+        let mut call = match self.random.below(54) {
             0 => self.start_up(),
             1..=3 => self.leaving(),
             4..=7 => self.identify(),
@@ -78,6 +85,7 @@ impl Generator {
             19..=22 => self.primitive(),
             23..=27 => self.broadcast_frame(),
             28..=33 => self.sheet(),
+            34..=37 => saved::call(&mut self.random, &self.shelf),
             _ => self.smp(),
         };
         self.damage(&mut call);
@@ -91,15 +99,24 @@ impl Generator {
             let answer = call.model(profile);
             Tried { calls: vec![(call, answer)], together: Together::Alone }
         };
-        let drawn = self.random.below(OF);
-        if drawn < PAIRS {
+        let mut drawn = self.random.below(OF);
+        let mut is_next = |share: usize| {
+            let is_it = drawn < share;
+            drawn = drawn.wrapping_sub(share);
+            is_it
+        };
+        if is_next(PAIRS) {
             let calls = self.pair().map(|call| (call.clone(), call.model(profile))).into();
             Tried { calls, together: Together::Pair }
-        } else if drawn < PAIRS + TRIPS {
+        } else if is_next(TRIPS) {
             Tried { calls: trips::trip(&mut self.random, &mut self.shelf), together: Together::Trip }
-        } else if drawn < PAIRS + TRIPS + SHEETS {
+        } else if is_next(SHEETS) {
             Tried { calls: sheets::trips::trip(&mut self.random, &mut self.shelf), together: Together::Sheets }
-        } else if drawn < PAIRS + TRIPS + SHEETS + CONSOLE {
+        } else if is_next(FILES) {
+            Tried { calls: saved::trips::trip(&mut self.random, &mut self.shelf), together: Together::Files }
+        } else if is_next(SWEEPS) {
+            alone(self.sweep())
+        } else if is_next(CONSOLE) {
             alone(Call::Console(choices::call(&mut self.random, profile)))
         } else {
             let tried = alone(self.call());
@@ -108,17 +125,23 @@ impl Generator {
         }
     }
 
+    /// The next call of the sweep, which leaves the shelf as it is.
+    fn sweep(&mut self) -> Call {
+        self.swept += 1;
+        saved::sweep::call(self.shelf.profile, self.swept - 1)
+    }
+
     /// The shelf goes on with the tables that an answered call left behind.
     pub fn keep(&mut self, call: &Call, after: &Answer) {
         if after.refusal() != 0 {
             return;
         }
         match (call, after.buffers.as_slice()) {
-            (Call::StartUp { .. } | Call::Import { .. }, [permissions]) => {
+            (Call::StartUp { .. } | Call::Import { .. } | Call::LoadVersion1 { .. }, [permissions]) => {
                 self.shelf.permissions.clone_from(permissions);
             }
             (Call::Leaving { .. } | Call::Identify { .. }, [phys]) => self.shelf.phys.clone_from(phys),
-            (Call::Smp { .. }, [phys, permissions, ..]) => {
+            (Call::Smp { .. } | Call::LoadVersion2 { .. }, [phys, permissions, ..]) => {
                 self.shelf.phys.clone_from(phys);
                 self.shelf.permissions.clone_from(permissions);
             }
@@ -279,6 +302,10 @@ impl Generator {
                 // Start-up has nothing but its size that could be wrong, and an export its room as well.
                 Call::StartUp { .. } => Damage::Sizes,
                 Call::Export { .. } => self.random.pick(&[Damage::Sizes, Damage::Room]),
+                Call::SaveVersion1 { .. } | Call::SaveVersion2 { .. } => {
+                    self.random.pick(&[Damage::Sizes, Damage::Room])
+                }
+                Call::LoadVersion1 { .. } | Call::LoadVersion2 { .. } => Damage::Sizes,
                 // A sheet that is too long takes its time.
                 Call::Import { .. } if self.random.percent(50) => Damage::Number,
                 _ => self.random.pick(&all),
@@ -315,7 +342,10 @@ fn damage_size(random: &mut Random, profile: Profile, call: &mut Call) {
         Profile::Small => PERMISSION_SIZES_OF_SMALL,
     };
     let mut tables: Vec<(&mut Vec<u8>, &[usize])> = match call {
-        Call::StartUp { permissions } | Call::Export { permissions, .. } => vec![(permissions, &permission_sizes)],
+        Call::StartUp { permissions }
+        | Call::Export { permissions, .. }
+        | Call::SaveVersion1 { permissions, .. }
+        | Call::LoadVersion1 { permissions, .. } => vec![(permissions, &permission_sizes)],
         Call::Leaving { phys, .. } | Call::Identify { phys, .. } => vec![(phys, &PHY_SIZES)],
         Call::Elect { phys, routes } => vec![(phys, &PHY_SIZES), (routes, &ROUTE_SIZES)],
         Call::Open { phys, routes, permissions, .. } => {
@@ -324,7 +354,9 @@ fn damage_size(random: &mut Random, profile: Profile, call: &mut Call) {
         Call::Primitive { phys, permissions, .. }
         | Call::BroadcastFrame { phys, permissions, .. }
         | Call::Smp { phys, permissions, .. }
-        | Call::Import { phys, permissions, .. } => vec![(phys, &PHY_SIZES), (permissions, &permission_sizes)],
+        | Call::Import { phys, permissions, .. }
+        | Call::SaveVersion2 { phys, permissions, .. }
+        | Call::LoadVersion2 { phys, permissions, .. } => vec![(phys, &PHY_SIZES), (permissions, &permission_sizes)],
         Call::Console(_) => return,
     };
     let which = random.below(tables.len());
@@ -348,7 +380,6 @@ const PERMISSION_SIZES_OF_SMALL: [usize; 9] = [0, 7, 9, 16, 256, 264, 2048, 2048
 
 fn damage_phy(random: &mut Random, call: &mut Call) {
     let (phys, phy) = match call {
-        Call::StartUp { .. } | Call::Elect { .. } | Call::Export { .. } | Call::Console(_) => return,
         Call::Leaving { phys, phy }
         | Call::Identify { phys, phy, .. }
         | Call::Open { phys, phy, .. }
@@ -356,6 +387,7 @@ fn damage_phy(random: &mut Random, call: &mut Call) {
         | Call::BroadcastFrame { phys, phy, .. }
         | Call::Smp { phys, phy, .. }
         | Call::Import { phys, phy, .. } => (phys, phy),
+        _ => return,
     };
     let count = (phys.len() / RECORD) as u32;
     let [cut_to_8, cut_to_16] = right_where_cut(*phy);
@@ -390,6 +422,10 @@ fn damage_room(random: &mut Random, call: &mut Call) {
             let size = random.pick(&[0, 147, 74_549, MOST - 1, MOST - 1, MOST - 1, MOST]);
             return sheet.truncate(size);
         }
+        Call::SaveVersion1 { file, .. } | Call::SaveVersion2 { file, .. } => {
+            let size = random.pick(&[0, 54, 440, 16_014, 16_398, ROOM - 1, ROOM - 1, ROOM]);
+            return file.truncate(size);
+        }
         _ => return,
     };
     let size = random.pick(&[0, 1, needed - 1, needed - 1, needed]);
@@ -399,7 +435,6 @@ fn damage_room(random: &mut Random, call: &mut Call) {
 /// The arriving phy becomes ready where it was not, and the other way round.
 fn damage_readiness(call: &mut Call) {
     match call {
-        Call::StartUp { .. } | Call::Elect { .. } | Call::Export { .. } | Call::Console(_) => {}
         Call::Leaving { phys, phy }
         | Call::Identify { phys, phy, .. }
         | Call::Open { phys, phy, .. }
@@ -411,6 +446,7 @@ fn damage_readiness(call: &mut Call) {
                 record[2] ^= 1;
             }
         }
+        _ => {}
     }
 }
 

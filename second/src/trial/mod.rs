@@ -15,6 +15,7 @@ pub mod ports;
 pub mod profile;
 pub mod random;
 pub mod requests;
+pub mod saved;
 pub mod sheets;
 pub mod shelf;
 pub mod small;

@@ -65,7 +65,7 @@ pub fn export(random: &mut Random, shelf: &Shelf) -> Call {
 }
 
 /// A few pairs that are on in one of the two rows alone: mostly in that of the higher group, which no export reads.
-fn one_way(random: &mut Random, profile: Profile) -> Vec<u8> {
+pub fn one_way(random: &mut Random, profile: Profile) -> Vec<u8> {
     let mut table = profile.fresh_table();
     let of_lower = random.percent(30);
     for _ in 0..random.between(1, 20) {

@@ -161,6 +161,18 @@ mod c {
         pub refusal: u32,
         pub length: u32,
     }
+
+    #[repr(C)]
+    pub struct Saved {
+        pub refusal: u32,
+        pub length: u32,
+    }
+
+    #[repr(C)]
+    pub struct Loaded {
+        pub refusal: u32,
+        pub version: u32,
+    }
 }
 
 /// A shelf's calls that take a permission table. Their names in C start with the prefix.
@@ -168,7 +180,7 @@ macro_rules! shelf {
     ($shelf:ident, $prefix:literal) => {
         pub mod $shelf {
             use super::{c, In, Out};
-            use second::{Answered, Exported, Imported, Opened, Told};
+            use second::{Answered, Exported, Imported, Loaded, Opened, Saved, Told};
 
             mod named {
                 use super::{c, In, Out};
@@ -247,6 +259,28 @@ macro_rules! shelf {
                     ) -> c::Imported;
                     #[link_name = concat!($prefix, "export")]
                     pub fn export(permissions: In, n: usize, sheet: Out, s: usize) -> c::Exported;
+                    #[link_name = concat!($prefix, "save_version_1")]
+                    pub fn save_version_1(permissions: In, n: usize, file: Out, f: usize) -> c::Saved;
+                    #[link_name = concat!($prefix, "save_version_2")]
+                    pub fn save_version_2(
+                        phys: In,
+                        n: usize,
+                        permissions: In,
+                        m: usize,
+                        file: Out,
+                        f: usize,
+                    ) -> c::Saved;
+                    #[link_name = concat!($prefix, "load_version_1")]
+                    pub fn load_version_1(permissions: Out, n: usize, file: In, f: usize) -> c::Loaded;
+                    #[link_name = concat!($prefix, "load_version_2")]
+                    pub fn load_version_2(
+                        phys: Out,
+                        n: usize,
+                        permissions: Out,
+                        m: usize,
+                        file: In,
+                        f: usize,
+                    ) -> c::Loaded;
                 }
             }
 
@@ -385,6 +419,35 @@ macro_rules! shelf {
                 let c::Exported { refusal, length } =
                     unsafe { named::export(permissions.as_ptr(), n, sheet.as_mut_ptr(), s) };
                 Exported { refusal, length }
+            }
+
+            pub fn save_version_1(permissions: &[u8], file: &mut [u8]) -> Saved {
+                let (n, f) = (permissions.len(), file.len());
+                let c::Saved { refusal, length } =
+                    unsafe { named::save_version_1(permissions.as_ptr(), n, file.as_mut_ptr(), f) };
+                Saved { refusal, length }
+            }
+
+            pub fn save_version_2(phys: &[u8], permissions: &[u8], file: &mut [u8]) -> Saved {
+                let (n, m, f) = (phys.len(), permissions.len(), file.len());
+                let c::Saved { refusal, length } =
+                    unsafe { named::save_version_2(phys.as_ptr(), n, permissions.as_ptr(), m, file.as_mut_ptr(), f) };
+                Saved { refusal, length }
+            }
+
+            pub fn load_version_1(permissions: &mut [u8], file: &[u8]) -> Loaded {
+                let (n, f) = (permissions.len(), file.len());
+                let c::Loaded { refusal, version } =
+                    unsafe { named::load_version_1(permissions.as_mut_ptr(), n, file.as_ptr(), f) };
+                Loaded { refusal, version }
+            }
+
+            pub fn load_version_2(phys: &mut [u8], permissions: &mut [u8], file: &[u8]) -> Loaded {
+                let (n, m, f) = (phys.len(), permissions.len(), file.len());
+                let c::Loaded { refusal, version } = unsafe {
+                    named::load_version_2(phys.as_mut_ptr(), n, permissions.as_mut_ptr(), m, file.as_ptr(), f)
+                };
+                Loaded { refusal, version }
             }
         }
     };

@@ -5,11 +5,13 @@
 
 use second::chains::slot_of;
 use second::console::{self, Built, Heard, ROOM, ROWS_ROOM};
+use second::saved::ROOM as FILE_ROOM;
 use second::sheets::MOST;
-use second::tables::{GROUPS, RECORD, ROUTE};
+use second::tables::{Group, GROUPS, RECORD, ROUTE};
 use second::trial::profile::Profile;
 use second::trial::random::Random;
-use second::{large, small, Answered, Elected, Exported, Imported, Opened, Told};
+use second::trial::saved::files::{all_pairs as all_named, Parts};
+use second::{large, small, Answered, Elected, Exported, Imported, Loaded, Opened, Saved, Told};
 use std::hint::black_box;
 use std::time::Instant;
 
@@ -31,7 +33,7 @@ struct Lent {
     /// The console's alone: choices are in `message`, and so is a response that is read.
     request: Vec<u8>,
     rows: Vec<u8>,
-    /// What an export writes. A sheet that is imported is in `message`.
+    /// What an export or a save writes. A sheet that is imported, or a file that is loaded, is in `message`.
     sheet: Vec<u8>,
 }
 
@@ -90,6 +92,12 @@ const EXPORT: Pair = pair!(export, library::large::export, large::export_by_byte
 const IMPORT_AS_READ: Pair = pair!(import, library::large::import, large::import);
 const EXPORT_AS_READ: Pair = pair!(export, library::large::export, large::export);
 
+// Files are timed beside plain Rust that goes through the ones of a row and makes no lists.
+const SAVE_1: Pair = pair!(save_1, library::large::save_version_1, large::save_version_1_straight);
+const SAVE_2: Pair = pair!(save_2, library::large::save_version_2, large::save_version_2_straight);
+const LOAD_1: Pair = pair!(load_1, library::large::load_version_1, large::load_version_1_straight);
+const LOAD_2: Pair = pair!(load_2, library::large::load_version_2, large::load_version_2_straight);
+
 const SMALL_START_UP: Pair = pair!(start_up, library::small::start_up, small::start_up);
 const SMALL_OPEN: Pair = pair!(open, library::small::open, small::open);
 const SMALL_PRIMITIVE: Pair = pair!(primitive, library::small::primitive, small::primitive_by_chains);
@@ -98,6 +106,10 @@ const SMALL_BROADCAST_FRAME: Pair =
 const SMALL_SMP: Pair = pair!(smp, library::small::smp, small::smp);
 const SMALL_IMPORT: Pair = pair!(import, library::small::import, small::import_by_bytes);
 const SMALL_EXPORT: Pair = pair!(export, library::small::export, small::export_by_bytes);
+const SMALL_SAVE_1: Pair = pair!(save_1, library::small::save_version_1, small::save_version_1_straight);
+const SMALL_SAVE_2: Pair = pair!(save_2, library::small::save_version_2, small::save_version_2_straight);
+const SMALL_LOAD_1: Pair = pair!(load_1, library::small::load_version_1, small::load_version_1_straight);
+const SMALL_LOAD_2: Pair = pair!(load_2, library::small::load_version_2, small::load_version_2_straight);
 
 const PHY_ZONES: Pair = pair!(console_phy_zones, library::console::phy_zones, console::phy_zones);
 const SINGLE: Pair = pair!(console_single, library::console::single, console::single);
@@ -169,6 +181,30 @@ fn import(lent: &mut Lent, import: impl Fn(&[u8], &mut [u8], u32, u32, &[u8]) ->
 fn export(lent: &mut Lent, export: impl Fn(&[u8], &mut [u8]) -> Exported) -> [u64; 4] {
     let exported = export(&lent.permissions, &mut lent.sheet);
     [exported.refusal, exported.length, 0, 0].map(u64::from)
+}
+
+#[inline]
+fn save_1(lent: &mut Lent, save: impl Fn(&[u8], &mut [u8]) -> Saved) -> [u64; 4] {
+    let saved = save(&lent.permissions, &mut lent.sheet);
+    [saved.refusal, saved.length, 0, 0].map(u64::from)
+}
+
+#[inline]
+fn save_2(lent: &mut Lent, save: impl Fn(&[u8], &[u8], &mut [u8]) -> Saved) -> [u64; 4] {
+    let saved = save(&lent.phys, &lent.permissions, &mut lent.sheet);
+    [saved.refusal, saved.length, 0, 0].map(u64::from)
+}
+
+#[inline]
+fn load_1(lent: &mut Lent, load: impl Fn(&mut [u8], &[u8]) -> Loaded) -> [u64; 4] {
+    let loaded = load(&mut lent.permissions, &lent.message);
+    [loaded.refusal, loaded.version, 0, 0].map(u64::from)
+}
+
+#[inline]
+fn load_2(lent: &mut Lent, load: impl Fn(&mut [u8], &mut [u8], &[u8]) -> Loaded) -> [u64; 4] {
+    let loaded = load(&mut lent.phys, &mut lent.permissions, &lent.message);
+    [loaded.refusal, loaded.version, 0, 0].map(u64::from)
 }
 
 /// One leaving for each phy.
@@ -365,6 +401,35 @@ fn sheet(mut lent: Lent, last: usize, lines: usize) -> Lent {
     lent
 }
 
+/// So many pairs of all, spread over the groups, and the zones of all phys: in the tables, with room for a file of them.
+fn to_save(mut lent: Lent, profile: Profile, pairs: usize) -> Lent {
+    let groups = profile.groups_of_table();
+    for record in lent.phys.as_chunks_mut::<RECORD>().0 {
+        record[1] %= groups as u8;
+    }
+    for [a, b] in spread(profile, pairs) {
+        let [a, b] = [a, b].map(Group::low_7_bits);
+        profile.write(&mut lent.permissions, a, b, true);
+        profile.write(&mut lent.permissions, b, a, true);
+    }
+    lent.sheet = vec![0; FILE_ROOM];
+    lent
+}
+
+fn spread(profile: Profile, pairs: usize) -> Vec<[u8; 2]> {
+    let all = all_named(profile);
+    (0..pairs).map(|place| all[place * all.len() / pairs]).collect()
+}
+
+/// The same as a file, of version 2 where the phys are in it. The tables lent are others.
+fn to_load(lent: Lent, profile: Profile, pairs: usize, with_phys: bool) -> Lent {
+    let saved = to_save(lent.clone(), profile, pairs);
+    let records = saved.phys.as_chunks::<RECORD>().0.iter().enumerate();
+    let zones = records.map(|(phy, record)| [phy as u8, record[0], record[1]]).collect();
+    let file = Parts { pairs: spread(profile, pairs), zones: with_phys.then_some(zones) };
+    Lent { message: file.bytes(), ..lent }
+}
+
 fn other_address(mut lent: Lent) -> Lent {
     lent.phys.as_chunks_mut::<RECORD>().0.iter_mut().for_each(|record| record[2] = 0b10);
     lent.message = address(NOWHERE).to_vec();
@@ -445,6 +510,8 @@ fn main() {
     print((0..runs).map(|_| at_the_console()).collect());
     println!();
     print((0..runs).map(|_| of_sheets()).collect());
+    println!();
+    print((0..runs).map(|_| of_files()).collect());
 }
 
 fn print(runs: Vec<Vec<Row>>) {
@@ -581,6 +648,32 @@ fn of_sheets() -> Vec<Row> {
         [row, each]
     };
     cases.into_iter().flat_map(both).collect()
+}
+
+/// Of every pair and of few, with 128 phys.
+fn of_files() -> Vec<Row> {
+    let shelves = [
+        ("", Profile::Large, [SAVE_1, SAVE_2, LOAD_1, LOAD_2], [8_001, 100]),
+        ("small: ", Profile::Small, [SMALL_SAVE_1, SMALL_SAVE_2, SMALL_LOAD_1, SMALL_LOAD_2], [21, 5]),
+    ];
+    let mut rows = Vec::new();
+    for (shelf_name, profile, [save_1, save_2, load_1, load_2], counts) in shelves {
+        let lent = || match profile {
+            Profile::Large => shelf(128, 0),
+            Profile::Small => small_shelf(128),
+        };
+        for pairs in counts {
+            let name = |call| format!("{shelf_name}{call}, {pairs} pairs");
+            rows.extend([
+                case(&name("save version 1"), save_1, to_save(lent(), profile, pairs), Runs::Many),
+                case(&name("save version 2"), save_2, to_save(lent(), profile, pairs), Runs::Many),
+                case(&name("load version 1"), load_1, to_load(lent(), profile, pairs, false), Runs::Many),
+                case(&name("load version 2"), load_2, to_load(lent(), profile, pairs, true), Runs::Many),
+                case(&name("load version 1 by reader 2"), load_2, to_load(lent(), profile, pairs, false), Runs::Many),
+            ]);
+        }
+    }
+    rows
 }
 
 fn case(name: &str, pair: Pair, lent: Lent, runs: Runs) -> Row {

@@ -56,7 +56,7 @@ fn there_and_back(random: &mut Random, shelf: &Shelf) -> Steps {
 }
 
 /// Every pair that an order may name is on.
-fn all_pairs(profile: Profile) -> Vec<u8> {
+pub fn all_pairs(profile: Profile) -> Vec<u8> {
     let mut table = profile.fresh_table();
     let groups = (2..profile.groups_of_table()).map(|group| Group::low_7_bits(group as u8));
     for a in groups.clone() {
@@ -66,7 +66,7 @@ fn all_pairs(profile: Profile) -> Vec<u8> {
 }
 
 /// The phy is ready, in group 1, and does not participate.
-fn with_a_warden(phys: &[u8], phy: usize) -> Vec<u8> {
+pub fn with_a_warden(phys: &[u8], phy: usize) -> Vec<u8> {
     let mut phys = phys.to_vec();
     let record = &mut phys.as_chunks_mut::<RECORD>().0[phy];
     record[0] &= !0x10;

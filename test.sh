@@ -77,6 +77,9 @@ python3 tests/warden.py
 step "the regulator's program against Python's csv, and against a shelf's reports"
 python3 tests/orders.py
 
+step "the wardens' program for saved files against a model of the format"
+python3 tests/zonefile.py
+
 step 'the bench program against the second program'
 second/target/release/streams "$bench"
 

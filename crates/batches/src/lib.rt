@@ -1,4 +1,6 @@
 // Batches of orders: a row of the permission table, and its column, by bytes.
+#![tactic(auto)]
+
 ghost use Rattle.std.specs.Prelude.{◌≡◌, ◌+◌, ◌*◌, ◌/◌, ◌%◌, ◌^◌, ◌-◌, ◌≤◌, ◌<◌, eqb, length, drop};
 ghost use Rattle.wire.specs.Bits.{bit};
 ghost use Rattle.permit.specs.Permission.{groups, P, Table};

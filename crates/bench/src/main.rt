@@ -1,4 +1,6 @@
 // The bench program: the bench rack on standard input, a line for each event on standard output.
+#![tactic(auto)]
+
 use libc::STDIN_FILENO;
 
 fn main() {

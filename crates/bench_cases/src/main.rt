@@ -1,4 +1,6 @@
 // Runs the events of each file that an argument names, each on a fresh bench rack, and writes the name before its lines.
+#![tactic(auto)]
+
 use libc::STDOUT_FILENO;
 
 fn one_file(i: usize) -> bool {

@@ -1,5 +1,7 @@
 // Runs the bench rack on a stream of events: a window over the input is refilled and run, and what a run wrote is handed on, so that a call of
 // C's serves many events: no limit on the length of the input. What is written is `bench_text`'s.
+#![tactic(auto)]
+
 ghost use Rattle.std.specs.Prelude.{◌≡◌, ◌+◌, ◌<◌, ◌≤◌, length};
 
 use libc::STDOUT_FILENO;

@@ -1,4 +1,6 @@
 // The bench's text below the program: a run over the whole events of a window, and the end of the input.
+#![tactic(auto)]
+
 ghost use Rattle.std.specs.Prelude.{◌≡◌, ◌+◌, ◌*◌, ◌<◌, ◌≤◌, length};
 ghost use Rattle.tables.specs.Phys.{phy_record};
 ghost use Rattle.events.specs.Events.{event_gives};

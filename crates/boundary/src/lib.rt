@@ -1,5 +1,7 @@
 // What both C boundaries share: each call over the row width, with its numbers and answers as the headers have them. Every number that C
 // could narrow silently comes as 32 bits and is clamped, never truncated.
+#![tactic(auto)]
+
 ghost use Rattle.std.specs.Prelude.{◌≡◌, [], ◌∷◌, min};
 ghost use Rattle.permit.specs.Permission.{Width};
 ghost use Rattle.tables.specs.Refusals.{first_refusal};

@@ -1,5 +1,7 @@
 // What both C boundaries share of saved files: each call over the row width, with its answers as the headers have them. No number is handed in, so
 // nothing is narrowed.
+#![tactic(auto)]
+
 ghost use Rattle.std.specs.Prelude.{◌≡◌, [], ◌∷◌};
 ghost use Rattle.permit.specs.Permission.{Width};
 ghost use Rattle.file_trailer.specs.Answers.{saved_as, loaded_as};

@@ -1,4 +1,6 @@
 // What both C boundaries share of sheets: each call over the row width, with its numbers and answers as the headers have them.
+#![tactic(auto)]
+
 ghost use Rattle.std.specs.Prelude.{◌≡◌, [], ◌∷◌};
 ghost use Rattle.permit.specs.Permission.{Width};
 ghost use Rattle.imports.specs.Import.{imported_as};

@@ -1,4 +1,6 @@
 // Broadcasts: a primitive, or a broadcast frame, arrives on a phy.
+#![tactic(auto)]
+
 ghost use Rattle.std.specs.Prelude.{◌≡◌, true, [], ◌∷◌, ◌++◌, ◌<◌, ◌≤◌, length, drop};
 ghost use Rattle.permit.specs.Permission.{permissions_sized, Width};
 ghost use Rattle.tables.specs.Refusals.{first_refusal};

@@ -1,4 +1,6 @@
 // The words that each call gives at the bench, put into a text.
+#![tactic(auto)]
+
 ghost use Rattle.std.specs.Prelude.{cond, List, ℕ, ◌+◌, ◌≤◌, eqb, length};
 ghost use Rattle.links.specs.Links.{linked_as};
 ghost use Rattle.broadcasts.specs.Broadcasts.{told_as};

@@ -1,6 +1,7 @@
 // The wardens' console, every call in one place: requests built from plain choices, and responses read back. It stands above the library and knows
 // only its contracts: of the library its code uses the types of `wire` alone. Each call takes any bytes and any numbers and answers: a refusal, which
 // changes no lent byte, or what was built or read. What the console and the library agree on is in specs/Promises.antt.
+#![tactic(auto)]
 
 // A request's length, or a refusal.
 pub use console_orders::Built;

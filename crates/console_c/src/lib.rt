@@ -1,5 +1,7 @@
 // The console for C: include/console.h. Every number that C could narrow silently comes as 32 bits and is clamped, never truncated: 255 is above
 // 127 as a group or a phy, and above 63 as a count.
+#![tactic(auto)]
+
 ghost use Rattle.std.specs.Prelude.{◌≡◌, [], ◌∷◌, min};
 ghost use Rattle.boundary.specs.C.{given, fields, in_c};
 ghost use Rattle.console_orders.specs.Building.{built_as, single_out, report_out};

@@ -1,4 +1,6 @@
 // The wardens' console: what every request that it builds has, a single order, and a report. Of the library it uses the types alone.
+#![tactic(auto)]
+
 ghost use Rattle.std.specs.Prelude.{◌≡◌, [], ◌∷◌, ◌++◌, ◌≤◌, length, drop};
 ghost use Rattle.wire.specs.Bits.{num};
 ghost use Rattle.tables.specs.Refusals.{first_refusal};

@@ -1,4 +1,6 @@
 // The wardens' console: a response read back to a result and rows.
+#![tactic(auto)]
+
 ghost use Rattle.std.specs.Prelude.{◌≡◌, [], ◌∷◌, ◌++◌, ◌+◌, ◌*◌, ◌/◌, ◌≤◌, ◌<◌, length, drop, get_or};
 ghost use Rattle.wire.specs.Bits.{bit, tab};
 ghost use Rattle.tables.specs.Refusals.{first_refusal, Clear};

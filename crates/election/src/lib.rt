@@ -1,4 +1,6 @@
 // The supervisor's election.
+#![tactic(auto)]
+
 ghost use Rattle.std.specs.Prelude.{◌≡◌, [], ◌*◌, ◌<◌, ◌≤◌, length};
 ghost use Rattle.tables.specs.Refusals.{first_refusal};
 ghost use Rattle.tables.specs.Outcome.{out};

@@ -1,4 +1,6 @@
 // Events at the bench rack: the call that an event makes, and its line of text.
+#![tactic(auto)]
+
 ghost use Rattle.std.specs.Prelude.{◌≡◌, [], ◌∷◌, ◌+◌, ◌≤◌, length};
 ghost use Rattle.lines.specs.Text.{line};
 ghost use Rattle.lines.specs.Words.{T, first_line};

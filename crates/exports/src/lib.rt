@@ -1,4 +1,6 @@
 // Export: the permitted pairs as a sheet.
+#![tactic(auto)]
+
 ghost use Rattle.std.specs.Prelude.{◌≡◌, true, [], ◌∷◌, ◌+◌, ◌≤◌, ◌<◌, length};
 ghost use Rattle.permit.specs.Permission.{groups, Width, Table};
 ghost use Rattle.tables.specs.Refusals.{first_refusal};

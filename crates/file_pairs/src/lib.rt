@@ -1,4 +1,6 @@
 // The pairs of a saved file: its records, and whether a table is one that they can give back.
+#![tactic(auto)]
+
 ghost use Rattle.std.specs.Prelude.{◌≡◌, ◌+◌, ◌%◌, ◌≤◌, ◌<◌, length};
 ghost use Rattle.permit.specs.Permission.{groups, Width, Table};
 ghost use Rattle.permit.specs.History.{Valid};

@@ -1,4 +1,6 @@
 // The phys of a saved file, version 2: three bytes for each.
+#![tactic(auto)]
+
 ghost use Rattle.std.specs.Prelude.{◌≡◌, ◌+◌, ◌*◌, ◌%◌, ◌≤◌, ◌<◌, length};
 ghost use Rattle.permit.specs.Permission.{Width};
 ghost use Rattle.tables.specs.Phys.{phy_record, phy_count};

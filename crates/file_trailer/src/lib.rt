@@ -1,4 +1,6 @@
 // The trailer of a saved file, and what saves and loads answer.
+#![tactic(auto)]
+
 ghost use Rattle.std.specs.Prelude.{◌≡◌, ◌+◌, ◌*◌, ◌≤◌, ◌<◌, length};
 ghost use Rattle.tables.specs.Refusals.{first_refusal};
 ghost use Rattle.lines.specs.Written.{Wrote};

@@ -1,4 +1,6 @@
 // Import: a sheet's lines as single orders.
+#![tactic(auto)]
+
 ghost use Rattle.std.specs.Prelude.{◌≡◌, [], ◌∷◌, ◌≤◌, ◌<◌, length};
 ghost use Rattle.wire.specs.declared.OutsideGroup.TheVariants.{Group};
 ghost use Rattle.permit.specs.Permission.{Width, Table};

@@ -1,4 +1,6 @@
 // Bytes, numbers and words put into a text: each function answers where the text then ends.
+#![tactic(auto)]
+
 ghost use Rattle.std.specs.Prelude.{◌≡◌, [], ◌∷◌, ◌+◌, ◌<◌, ◌≤◌, length, drop};
 ghost use Rattle.lines.specs.Text.{space, decimal, hex_digit, hex};
 ghost use Rattle.lines.specs.Words.{reply_words, outcome_words};

@@ -1,4 +1,6 @@
 // Start-up, and link events: which group a disk is in after a cable is moved.
+#![tactic(auto)]
+
 ghost use Rattle.std.specs.Prelude.{◌≡◌, [], ◌∷◌, ◌<◌};
 ghost use Rattle.permit.specs.Permission.{Width};
 ghost use Rattle.tables.specs.Phys.{phy_count};

@@ -1,6 +1,8 @@
 // A regulator's program: a sheet of orders on standard input, in the order in which they were given, and on standard output the pairs that they permit,
 // as a sheet, or the line that failed and why. It reads one byte more than a sheet may have, so that the first bytes of a longer input are not taken for a
 // whole sheet.
+#![tactic(auto)]
+
 use libc::STDOUT_FILENO;
 
 fn main() {

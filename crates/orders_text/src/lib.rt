@@ -1,5 +1,7 @@
 // What the program `orders` answers to a sheet of orders: the pairs that they permit, as a sheet, or the line that failed and why. Each `put_`
 // answers where the text then ends. Long texts have a function each: side by side they are slow to prove.
+#![tactic(auto)]
+
 ghost use Rattle.std.specs.Prelude.{◌≡◌, ◌+◌, ◌≤◌, length};
 ghost use Rattle.permit.specs.Permission.{start_table};
 ghost use Rattle.lines.specs.Written.{Wrote};

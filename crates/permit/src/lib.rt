@@ -1,5 +1,7 @@
 // The permission table: rows of `width` bytes, one for each of 8 * width groups. In a row, group j is bit j mod 8 of byte width - 1 - j/8.
 // Document 01's table is that of width 16: 2,048 bytes, row a at byte 16a. The small shelf's is that of width 1: 8 bytes.
+#![tactic(auto)]
+
 ghost use Rattle.std.specs.Prelude.{◌≡◌, ◌+◌, ◌*◌, ◌/◌, ◌%◌, ◌^◌, ◌-◌, ◌≤◌, ◌<◌, ◌||◌, eqb, length};
 ghost use Rattle.permit.specs.Permission.{groups, table_size, permissions_sized, place, P, reaches, set_P, set_both, start_table, Width, Table, Whole};
 ghost use Rattle.permit.specs.Masks.{Masked};

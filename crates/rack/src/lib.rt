@@ -1,4 +1,6 @@
 // The bench rack: a fixed table of eight phys.
+#![tactic(auto)]
+
 ghost use Rattle.std.specs.Prelude.{◌≡◌, ◌+◌, ◌*◌, ◌≤◌, length};
 ghost use Rattle.permit.specs.Permission.{start_table};
 ghost use Rattle.tables.specs.Phys.{phy_record};

@@ -1,4 +1,6 @@
 // What every SMP request and response has.
+#![tactic(auto)]
+
 ghost use Rattle.std.specs.Prelude.{◌≡◌, [], ◌∷◌, ◌++◌, ◌≤◌, ◌<◌, length, drop};
 ghost use Rattle.permit.specs.Permission.{Table};
 ghost use Rattle.tables.specs.Phys.{phy_count};

@@ -1,4 +1,6 @@
 // OPEN's search: where a frame's destination is, by the phy table and then by the route table.
+#![tactic(auto)]
+
 ghost use Rattle.std.specs.Prelude.{◌≡◌, ◌*◌, ◌≤◌, length};
 ghost use Rattle.tables.specs.Phys.{phy_record, phy_count};
 ghost use Rattle.tables.specs.Routes.{route_count};

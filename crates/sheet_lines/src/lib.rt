@@ -1,4 +1,6 @@
 // The lines of a zone sheet, read one by one: "group,group,1" or "group,group,0", and CRLF or LF.
+#![tactic(auto)]
+
 ghost use Rattle.std.specs.Prelude.{◌≡◌, true, ◌+◌, ◌-◌, ◌*◌, ◌≤◌, ◌<◌, length, drop};
 ghost use Rattle.sheet_lines.specs.Line.{is_figure, figures, number, before_comma, before_end, switch};
 ghost use Rattle.sheet_lines.specs.Places.{capped, Reads, ReadAs, LineAs};

@@ -1,5 +1,6 @@
 // Every public call of the zoning part, in one place. Each takes any bytes and any numbers, asks nothing of its caller, and answers:
 // a numbered refusal, which changes no lent byte, or the number 0 with its values. The promises about them are in specs/Promises.antt.
+#![tactic(auto)]
 
 // Start-up writes the permission table.
 pub use links::start_up;

@@ -1,4 +1,6 @@
 // The shelf for C: include/shelf.h. All that is here is the row width, which is a constant of the archive.
+#![tactic(auto)]
+
 ghost use Rattle.std.specs.Prelude.{◌≡◌, [], ◌∷◌};
 ghost use Rattle.links.specs.Links.{start_up_out, leaving_out};
 ghost use Rattle.election.specs.Election.{elect_out};

@@ -1,4 +1,6 @@
 // A report's rows: what the permission table says of every two groups, in document 01's rows of sixteen bytes.
+#![tactic(auto)]
+
 ghost use Rattle.std.specs.Prelude.{◌≡◌, ◌+◌, ◌*◌, ◌-◌, min, ◌≤◌, length};
 ghost use Rattle.std.proofs.Math.Seq.{paste};
 ghost use Rattle.permit.specs.Permission.{groups, Width, Table};

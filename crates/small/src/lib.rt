@@ -1,6 +1,8 @@
 // The small shelf: groups 0 to 7, a permission table of 8 bytes. Every public call of the profile, in one place. The calls that are lent the
 // permission table are document 01's at a row width of one byte; the others are document 01's own. What is promised of them is promised for
 // every row width, in shelf/specs/Promises.antt; specs/Promises.antt says it in this shelf's numbers.
+#![tactic(auto)]
+
 ghost use Rattle.std.specs.Prelude.{◌≡◌, [], ◌∷◌};
 ghost use Rattle.tables.specs.Outcome.{out};
 ghost use Rattle.links.specs.Links.{linked_as, start_up_out};

@@ -1,4 +1,6 @@
 // SMP requests: what is refused, and the call.
+#![tactic(auto)]
+
 ghost use Rattle.std.specs.Prelude.{◌≡◌, [], ◌∷◌};
 ghost use Rattle.permit.specs.Permission.{Width};
 ghost use Rattle.tables.specs.Refusals.{first_refusal};

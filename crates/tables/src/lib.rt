@@ -1,4 +1,6 @@
 // Phy records, route records and the set of all ready phys.
+#![tactic(auto)]
+
 ghost use Rattle.std.specs.Prelude.{◌≡◌, ◌++◌, ◌+◌, ◌*◌, ◌%◌, ◌<◌, ◌≤◌, length, drop};
 ghost use Rattle.wire.specs.PhySet.{set_byte};
 ghost use Rattle.tables.specs.Phys.{phy_record, phy_count, participating, phy_priority, phy_group, phy_address, device_type, attached_phy, ready, known, ready_set, empty_set, zoned, phys_sized};

@@ -1,5 +1,7 @@
 // The wardens' program: orders and responses in plain words on standard input, a line each, and their answers on standard output. A window
 // over the input is refilled, so that there is no limit on the input's length.
+#![tactic(auto)]
+
 ghost use Rattle.std.specs.Prelude.{◌≡◌, ◌+◌, ◌<◌, ◌≤◌, length};
 
 use libc::{STDIN_FILENO, STDOUT_FILENO};

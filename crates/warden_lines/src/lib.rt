@@ -1,4 +1,6 @@
 // A warden's line in plain words: which order it is, or which response, and what the console makes of it.
+#![tactic(auto)]
+
 ghost use Rattle.std.specs.Prelude.{◌≡◌, ◌+◌, ◌*◌, ◌<◌, ◌≤◌, length, set};
 
 use warden_words::Read;

@@ -1,5 +1,7 @@
 // What a warden is answered, as text: a request's bytes, a response in words, a refusal, and what was expected of a line. Each function answers where
 // the text then ends. Long texts have a function each: side by side they are slow to prove.
+#![tactic(auto)]
+
 ghost use Rattle.std.specs.Prelude.{◌≡◌, ◌+◌, ◌*◌, ◌<◌, ◌≤◌, length};
 ghost use Rattle.lines.specs.Text.{decimal};
 ghost use Rattle.lines.specs.Written.{Wrote};

@@ -1,5 +1,7 @@
 // A line's words and numbers. A position in a line is where a word starts, or the line's end: whatever takes a word answers where the next one
 // starts, and where it was asked if the word there is not the one that it takes.
+#![tactic(auto)]
+
 ghost use Rattle.std.specs.Prelude.{◌≡◌, cond, ◌+◌, ◌*◌, ◌-◌, ◌≤◌, length};
 ghost use Rattle.warden_words.specs.Words.{between, blank, letter_or_digit, of_kind, run_end, word_end, word_at, next_word};
 ghost use Rattle.warden_words.specs.Words as words;

@@ -1,5 +1,7 @@
 // Standard input, read to its end, for the programs that answer one text to one input. What a caller lends is one byte longer than the longest input that it
 // takes, so that the first bytes of a longer one are not taken for a whole input.
+#![tactic(auto)]
+
 ghost use Rattle.std.specs.Prelude.{◌≤◌, length};
 
 use libc::STDIN_FILENO;

@@ -1,4 +1,6 @@
 // A window over an input: what is unread in it is kept at its front, and more is read behind that. The programs stream, so that no input is too long.
+#![tactic(auto)]
+
 ghost use Rattle.std.specs.Prelude.{◌≡◌, ◌+◌, ◌≤◌, length, take, drop};
 ghost use Rattle.lines.specs.Written.{written};
 

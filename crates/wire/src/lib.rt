@@ -1,4 +1,6 @@
 // What stands on the wire and in every lent table: phy numbers, zone groups, addresses and sets of phys.
+#![tactic(auto)]
+
 ghost use Rattle.std.specs.Prelude.{◌≡◌, ◌++◌, ◌+◌, ◌<◌, ◌≤◌, length, take, drop, replicate};
 ghost use Rattle.std.proofs.Math.Seq.{paste};
 ghost use Rattle.wire.specs.Groups.{group_of, outside_group};

@@ -1,4 +1,6 @@
 // C1h CONFIGURE ZONE PERMISSION: the orders.
+#![tactic(auto)]
+
 ghost use Rattle.std.specs.Prelude.{◌≡◌, ◌&&◌, ◌++◌, ◌%◌, ◌≤◌, ◌<◌, ltb, length, drop};
 ghost use Rattle.permit.specs.Permission.{groups, set_both, Width, Table};
 ghost use Rattle.permit.specs.Orders.{apply, rows_end};

@@ -1,4 +1,6 @@
 // 51h REPORT ZONE PERMISSION.
+#![tactic(auto)]
+
 ghost use Rattle.std.specs.Prelude.{◌≡◌, ◌∷◌, ◌++◌, ◌+◌, ◌*◌, ◌/◌, min, ◌≤◌, ◌<◌, length, drop};
 ghost use Rattle.permit.specs.Permission.{Table};
 ghost use Rattle.tables.specs.Refusals.{first_refusal};

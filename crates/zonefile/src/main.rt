@@ -1,5 +1,7 @@
 // A warden's program: `zonefile save` turns a sheet of orders on standard input into a version 1 file on standard output, `zonefile load` such a file into
 // the sheet of its pairs. Why there is none stands on standard error, and then nothing on standard output.
+#![tactic(auto)]
+
 ghost use Rattle.std.specs.Prelude.{◌≤◌, length};
 
 use libc::{STDERR_FILENO, STDOUT_FILENO};

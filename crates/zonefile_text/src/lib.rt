@@ -1,5 +1,7 @@
 // What the program `zonefile` answers: to a sheet of orders the version 1 file of the table that they make, to such a file the sheet of its pairs, and
 // where there is none the words why. Each `put_` answers where the text then ends. Long texts have a function each: side by side they are slow to prove.
+#![tactic(auto)]
+
 ghost use Rattle.std.specs.Prelude.{◌≡◌, true, ◌||◌, ◌≤◌, length};
 ghost use Rattle.permit.specs.Permission.{start_table};
 ghost use Rattle.tables.specs.Refusals.{first_refusal};

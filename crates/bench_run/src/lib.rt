@@ -8,7 +8,7 @@ use libc::STDOUT_FILENO;
 use tables::PHY_RECORD;
 
 // The unread bytes of the window are those from `at` up to `have`; `number` is the next event's.
-#[derive(Drop)]
+#[derive(Clone, Copy)]
 struct Window {
     at: usize,
     have: usize,

@@ -1,7 +1,7 @@
 -- A run over the whole events of a window: its steps, where it stops, and the loop that makes it.
 -- Assumes nothing.
 use mathlib.Core.Path.{◌≡◌, refl, sym, ap, ◌∙◌}
-use mathlib.Core.List.{List, [], ◌∷◌, ◌++◌, append_nil, append_assoc}
+use mathlib.Core.List.{List, [], ◌∷◌, ◌++◌, append-nil, append_assoc}
 use Prim.Native.Nat.{ℕ, zero, suc, ◌+◌, ◌-◌, ◌≤◌, ◌<◌}
 use native.Mathlib.Nat.{add-zero, zero-add, add_assoc, sub-zero, sub_self}
 use native.Mathlib.Decide.{dec_lt}
@@ -154,7 +154,7 @@ module _ (window : List ℕ) (number₀ : ℕ) (text₀ phys₀ permissions₀ p
         record {
           taken = sym (ap (λ (x : Ran). x.taken) e ∙ add-zero at);
           number = sym (ap (λ (x : Ran). x.number) e);
-          said = rw (ap (λ (x : Ran). x.lines) e ∙ append_nil r.out) r.said;
+          said = rw (ap (λ (x : Ran). x.lines) e ∙ append-nil r.out) r.said;
           phys = sym (ap (λ (x : Ran). x.phys) e);
           permissions = sym (ap (λ (x : Ran). x.permissions) e);
         },
@@ -171,7 +171,7 @@ part_put t l u h =
     rw (
       take_all (length t - u) (drop u t) d,
       drop_of_length-le (drop u t) {i = length t - u} d,
-      append_nil,
+      append-nil,
       sets-eq l (drop u t) 0 e,
       sets-eq l t u h,
       zero-add (length l),

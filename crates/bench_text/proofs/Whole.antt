@@ -2,7 +2,7 @@
 -- Assumes nothing.
 use mathlib.Core.Path.{◌≡◌, refl, sym, ap, ◌∙◌}
 use mathlib.Core.Bool.{Bool, true, false, cond}
-use mathlib.Core.List.{List, [], ◌∷◌, ◌++◌, append_nil, append_assoc}
+use mathlib.Core.List.{List, [], ◌∷◌, ◌++◌, append-nil, append_assoc}
 use Prim.Native.Nat.{ℕ, zero, suc, ◌+◌, ◌-◌, ◌*◌, ◌≤◌, ◌<◌}
 use native.Mathlib.Nat.{sub-zero}
 use native.Mathlib.Decide.{ℕ_discrete}
@@ -67,7 +67,7 @@ pub turns_text : (ts : List Turn) (s : Stage)
     → events_text (s.waits ++ came_in ts) s.number s.phys s.permissions
     ≡ said_in ts s ++ events_text (stage_after ts s).waits (stage_after ts s).number (stage_after ts s).phys (stage_after ts s).permissions
 unfolding stage_after came_in said_in
-turns_text [] s = rw append_nil
+turns_text [] s = rw append-nil
 turns_text (bytes bs ∷ ts) s = rw (← append_assoc s.waits bs (came_in ts)) (turns_text ts (after (bytes bs) s))
 turns_text (run room ∷ ts) s =
     run_text (length s.waits) s.waits (came_in ts) s.number room s.phys s.permissions

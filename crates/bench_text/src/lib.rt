@@ -9,7 +9,7 @@ ghost use Rattle.bench_text.specs.Stream.{ending};
 ghost use Rattle.bench_text.specs.Run.{begun, ready, run_over, Told, Within, Put};
 
 // How far a run came: the bytes that it took, the next event's number, and the bytes of text that it wrote.
-#[derive(Drop)]
+#[derive(Clone, Copy)]
 pub struct Progress {
     pub taken: usize,
     pub number: u64,

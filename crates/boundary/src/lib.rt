@@ -24,7 +24,7 @@ use wire::PhyNumber;
 
 // The answers' fields stand in the headers' order: C reads them by place.
 #[repr(C)]
-#[derive(Drop)]
+#[derive(Clone, Copy)]
 pub struct ElectedC {
     pub refusal: u32,
     pub priority: u32,
@@ -32,7 +32,7 @@ pub struct ElectedC {
 }
 
 #[repr(C)]
-#[derive(Drop)]
+#[derive(Clone, Copy)]
 pub struct OpenedC {
     pub refusal: u32,
     pub outcome: u32,
@@ -40,14 +40,14 @@ pub struct OpenedC {
 }
 
 #[repr(C)]
-#[derive(Drop)]
+#[derive(Clone, Copy)]
 pub struct ToldC {
     pub refusal: u32,
     pub count: u32,
 }
 
 #[repr(C)]
-#[derive(Drop)]
+#[derive(Clone, Copy)]
 pub struct AnsweredC {
     pub refusal: u32,
     pub result: u32,

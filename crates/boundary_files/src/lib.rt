@@ -14,14 +14,14 @@ use file_trailer::{Loaded, Saved};
 
 // The answers' fields stand in the headers' order: C reads them by place.
 #[repr(C)]
-#[derive(Drop)]
+#[derive(Clone, Copy)]
 pub struct SavedC {
     pub refusal: u32,
     pub length: u32,
 }
 
 #[repr(C)]
-#[derive(Drop)]
+#[derive(Clone, Copy)]
 pub struct LoadedC {
     pub refusal: u32,
     pub version: u32,

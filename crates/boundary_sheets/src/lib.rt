@@ -13,7 +13,7 @@ use imports::Imported;
 
 // The answers' fields stand in the headers' order: C reads them by place.
 #[repr(C)]
-#[derive(Drop)]
+#[derive(Clone, Copy)]
 pub struct ImportedC {
     pub refusal: u32,
     pub lines: u32,
@@ -21,7 +21,7 @@ pub struct ImportedC {
 }
 
 #[repr(C)]
-#[derive(Drop)]
+#[derive(Clone, Copy)]
 pub struct ExportedC {
     pub refusal: u32,
     pub length: u32,

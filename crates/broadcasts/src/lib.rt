@@ -13,7 +13,7 @@ ghost use Rattle.broadcasts.specs.Inner.{Lent, Announced};
 use tables::READY;
 use wire::{OutsideGroup, PhyNumber, ZoneGroup};
 
-#[derive(Drop)]
+#[derive(Clone, Copy)]
 pub enum Told {
     Refused(u8),
     Count(u8),

@@ -17,14 +17,14 @@ use wire::ZoneGroup;
 
 // The answers' fields stand in the header's order: C reads them by place.
 #[repr(C)]
-#[derive(Drop)]
+#[derive(Clone, Copy)]
 pub struct BuiltC {
     pub refusal: u32,
     pub length: u32,
 }
 
 #[repr(C)]
-#[derive(Drop)]
+#[derive(Clone, Copy)]
 pub struct HeardC {
     pub refusal: u32,
     pub function: u32,

@@ -20,7 +20,7 @@ pub const WOULD_FAIL: u8 = 24;
 
 pub const NO_RESPONSE: u8 = 25;
 
-#[derive(Drop)]
+#[derive(Clone, Copy)]
 pub enum Built {
     Refused(u8),
     // The request's length.

@@ -9,7 +9,7 @@ ghost use Rattle.console_reading.specs.Reading.{heard_as, among, possible, repor
 
 use console_orders::{NO_RESPONSE, NO_ROOM};
 
-#[derive(Drop)]
+#[derive(Clone, Copy)]
 pub enum Heard {
     Refused(u8),
     // Function and result.

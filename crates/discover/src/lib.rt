@@ -14,7 +14,7 @@ use tables::PHY_RECORD;
 use wire::PhyNumber;
 
 // The change counts, which the caller keeps: of the expander, and of the phy that is asked for.
-#[derive(Drop)]
+#[derive(Clone, Copy)]
 pub struct Changes {
     pub expander: u16,
     pub phy: u8,

@@ -12,13 +12,13 @@ use tables::{PHY_RECORD, ROUTE_RECORD, WRONG_SIZE};
 use wire::{OutsideGroup, PhyNumber};
 
 // The best candidate so far. Two fields of one size: a gap between them would be copied at each step.
-#[derive(Drop)]
+#[derive(Clone, Copy)]
 pub struct Candidate {
     pub priority: u64,
     pub address: u64,
 }
 
-#[derive(Drop)]
+#[derive(Clone, Copy)]
 pub enum Elected {
     Refused(u8),
     // Priority and address.

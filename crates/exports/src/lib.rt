@@ -13,7 +13,7 @@ ghost use Rattle.exports.specs.Export.{pair_text, row_text, sheet_text, export_c
 use sheet_lines::{CR, LF, SHEET_MOST};
 use wire::ZoneGroup;
 
-#[derive(Drop)]
+#[derive(Clone, Copy)]
 pub enum Exported {
     Refused(u8),
     // Bytes.
@@ -21,7 +21,7 @@ pub enum Exported {
 }
 
 // A group's number and its comma as the four bytes of one number, lowest first, and how many of them count.
-#[derive(Drop)]
+#[derive(Clone, Copy)]
 struct Field {
     bytes: u32,
     length: usize,

@@ -6,14 +6,14 @@ ghost use Rattle.tables.specs.Refusals.{first_refusal};
 ghost use Rattle.lines.specs.Written.{Wrote};
 ghost use Rattle.file_trailer.specs.Trailer.{two, four, trailer, version_of, count_of, offset_of, size_of, lengths_checks};
 
-#[derive(Drop)]
+#[derive(Clone, Copy)]
 pub enum Saved {
     Refused(u8),
     // The file's length.
     Written(u32),
 }
 
-#[derive(Drop)]
+#[derive(Clone, Copy)]
 pub enum Loaded {
     Refused(u8),
     // The file's version.

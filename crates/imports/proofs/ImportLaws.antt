@@ -2,7 +2,7 @@
 -- Assumes nothing.
 use mathlib.Core.Path.{◌≡◌, refl, sym, ap, ◌∙◌}
 use mathlib.Core.Bool.{Bool, true}
-use mathlib.Core.List.{List, [], ◌∷◌, ◌++◌, append_nil, append_assoc}
+use mathlib.Core.List.{List, [], ◌∷◌, ◌++◌, append-nil, append_assoc}
 use Prim.Native.Nat.{ℕ, zero, suc, ◌+◌, ◌-◌, ◌≤◌, ◌<◌}
 use native.Mathlib.Decide.{dec_lt}
 use native.Mathlib.Omega.{arith}
@@ -231,7 +231,7 @@ module _ (w : ℕ) (source : OutsideGroup) where
         let k : Stops w source s at t t₁ cause = rw e at g in
         ends i.orders cause k.caused i.counted
         (stepped i.most refl ∙ ap (before i.orders) (k.obeys (import_lines w source (i.most - 1)))
-        ∙ ap (λ (l : List Order). done l cause) (append_nil i.orders))
+        ∙ ap (λ (l : List Order). done l cause) (append-nil i.orders))
         (k.kept ∙ i.applied)
       where
         ends : (os : List Order) (n : ℕ) → 0 < n → lines ≡ length os → import_lines w source (length s) t₀ s ≡ done os n → t₁ ≡ apply w os t₀
@@ -245,7 +245,7 @@ module _ (w : ℕ) (source : OutsideGroup) where
   pub import_end : (s t₀ t : List ℕ) (at lines : ℕ) → length s ≤ at → Importing s t₀ t at lines → Leaves w (import_lines w source (length s) t₀ s) t₀ (WholeOf lines) t
   import_end s t₀ t at lines h i =
       let q : import_lines w source (length s) t₀ s ≡ done i.orders 0 =
-      i.rest ∙ ap (before i.orders) (lines_out s t at i.most h) ∙ ap (λ (l : List Order). done l 0) (append_nil i.orders) in
+      i.rest ∙ ap (before i.orders) (lines_out s t at i.most h) ∙ ap (λ (l : List Order). done l 0) (append-nil i.orders) in
       ends i.orders i.counted q i.applied
     where
       ends : (os : List Order) → lines ≡ length os → import_lines w source (length s) t₀ s ≡ done os 0 → t ≡ apply w os t₀

@@ -13,7 +13,7 @@ use sheet_lines::{LineRead, SHEET_MOST};
 use tables::READY;
 use wire::{OutsideGroup, PhyNumber, ZoneGroup};
 
-#[derive(Drop)]
+#[derive(Clone, Copy)]
 pub enum Imported {
     Refused(u8),
     // The line that failed, from 1, and the cause.
@@ -23,7 +23,7 @@ pub enum Imported {
 }
 
 // A line was carried out, and the next one starts there; or the cause why not.
-#[derive(Drop)]
+#[derive(Clone, Copy)]
 pub enum Obeyed {
     Next(usize),
     Stop(u8),

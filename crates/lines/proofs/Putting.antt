@@ -1,7 +1,7 @@
 -- The loop that puts texts one behind the other, and how long they are together.
 -- Assumes nothing.
 use mathlib.Core.Path.{◌≡◌, refl, sym, ap, ◌∙◌}
-use mathlib.Core.List.{List, [], ◌++◌, append_nil, append_assoc}
+use mathlib.Core.List.{List, [], ◌++◌, append-nil, append_assoc}
 use Prim.Native.Nat.{ℕ, zero, suc, ◌+◌, ◌-◌, ◌*◌, ◌≤◌, ◌<◌}
 use native.Mathlib.Nat.{add-zero, zero-add}
 use native.Mathlib.Numerals.{add-one}
@@ -69,7 +69,7 @@ module _ (f : ℕ → List ℕ) (lo hi : ℕ) (text₀ : List ℕ) (at : ℕ) wh
     unfolding texts
     putting_end h =
         let e : hi - k ≡ 0 = omega arith in
-        rw (p.rest ∙ ap (λ (n : ℕ). p.put ++ texts f k n) e ∙ append_nil p.put) p.wrote
+        rw (p.rest ∙ ap (λ (n : ℕ). p.put ++ texts f k n) e ∙ append-nil p.put) p.wrote
 
 -- ---- how long texts are
 -- the sum of g i, g (i + 1), .., n of them

@@ -14,7 +14,7 @@ use wire::PhyNumber;
 // Document 01's number.
 const ADDRESS_ZERO: u8 = 5;
 
-#[derive(Drop)]
+#[derive(Clone, Copy)]
 pub enum Linked {
     Refused(u8),
     Done,

@@ -13,7 +13,7 @@ use searches::Found;
 use tables::READY;
 use wire::{PhyNumber, ZoneGroup};
 
-#[derive(Drop)]
+#[derive(Clone, Copy)]
 pub enum Opened {
     Refused(u8),
     NoDestination,

@@ -1,7 +1,7 @@
 -- The fixed table: one record stored, and the loop that stores all eight.
 -- Assumes nothing.
 use mathlib.Core.Path.{◌≡◌, refl, sym, ap, ◌∙◌}
-use mathlib.Core.List.{List, [], ◌∷◌, ◌++◌, append_nil}
+use mathlib.Core.List.{List, [], ◌∷◌, ◌++◌, append-nil}
 use Prim.Native.Nat.{ℕ, ◌+◌, ◌*◌, ◌≤◌, ◌<◌}
 use native.Mathlib.Numerals.{add-one}
 use native.Mathlib.Omega.{arith}
@@ -71,4 +71,4 @@ stored_end t₀ t i n h r =
     ∙ r.left
     ∙ sets-eq (flat rack) t₀ 0 (omega arith)
     ∙ ap (λ (l : List ℕ). flat rack ++ l) (drop_of_length-le t₀ {i = 8 * phy_record} (omega arith))
-    ∙ append_nil (flat rack)
+    ∙ append-nil (flat rack)

@@ -9,7 +9,7 @@ ghost use Rattle.rack.specs.Rack.{bytes_of, rack_table};
 
 use tables::PHY_RECORD;
 
-#[derive(Drop)]
+#[derive(Clone, Copy)]
 pub struct PhyRecord {
     pub first: u8,
     pub group: u8,

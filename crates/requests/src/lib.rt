@@ -9,7 +9,7 @@ ghost use Rattle.requests.specs.Requests.{smp_source, source_reaches, right};
 use wire::{OutsideGroup, PhyNumber, ZoneGroup};
 
 // What a rule answers: the result, and how many bytes of the response it wrote.
-#[derive(Drop)]
+#[derive(Clone, Copy)]
 pub struct Ruled {
     pub result: u8,
     pub written: u16,

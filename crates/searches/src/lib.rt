@@ -10,7 +10,7 @@ use tables::{PHY_RECORD, ROUTE_RECORD};
 use wire::{OutsideGroup, PhyNumber, ZoneGroup};
 
 // What a search yields: the phy to go out on, and the destination's group.
-#[derive(Drop)]
+#[derive(Clone, Copy)]
 pub enum Found {
     At(PhyNumber, ZoneGroup),
     Nothing,

@@ -15,20 +15,20 @@ pub const CR: u8 = 13;
 pub const LF: u8 = 10;
 
 // What stands at a place: a number, and where the text behind it starts.
-#[derive(Drop)]
+#[derive(Clone, Copy)]
 pub enum Read {
     Number(u8, usize),
     Nothing,
 }
 
 // Two groups, on or off, and where the next line starts; or text that is no line.
-#[derive(Drop)]
+#[derive(Clone, Copy)]
 pub enum LineRead {
     Line(u8, u8, bool, usize),
     Bad,
 }
 
-#[derive(Drop)]
+#[derive(Clone, Copy)]
 struct Scanned {
     value: u8,
     next: usize,
@@ -258,7 +258,7 @@ fn line_at(sheet: &[u8], at: usize) -> LineRead
 
 // A line reader: the sheet, and where the next line starts. The functions over it are thin, and proved by hand; `read_line` serves
 // every other caller.
-#[derive(Drop)]
+#[derive(Clone, Copy)]
 pub struct LineReader<'a> {
     pub sheet: &'a [u8],
     pub at: usize,

@@ -11,7 +11,7 @@ use discover::Changes;
 use tables::READY;
 use wire::{OutsideGroup, PhyNumber};
 
-#[derive(Drop)]
+#[derive(Clone, Copy)]
 pub enum Answered {
     Refused(u8),
     // Result, response bytes, phys told.

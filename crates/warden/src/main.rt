@@ -8,7 +8,7 @@ use libc::{STDIN_FILENO, STDOUT_FILENO};
 
 // The unread bytes of the window are those from `at` up to `have`; `number` is the next line's. While `skipping`, what comes up to the
 // next line end belongs to a line that was answered as too long.
-#[derive(Drop)]
+#[derive(Clone, Copy)]
 struct Window {
     at: usize,
     have: usize,

@@ -7,7 +7,7 @@ use warden_words::Read;
 use wire::{PhyNumber, ZoneGroup};
 
 // What the words after a phy's group say.
-#[derive(Drop)]
+#[derive(Clone, Copy)]
 struct Traits {
     participating: u8,
     priority: u8,
@@ -15,7 +15,7 @@ struct Traits {
 }
 
 // Where a batch's rows have come to; `high`: a group was above 127.
-#[derive(Drop)]
+#[derive(Clone, Copy)]
 struct Spot {
     next: usize,
     row: usize,
@@ -23,7 +23,7 @@ struct Spot {
 }
 
 // How many entries, rows or bytes were taken; not `whole` where a word was in the way.
-#[derive(Drop)]
+#[derive(Clone, Copy)]
 struct Taken {
     whole: bool,
     count: usize,

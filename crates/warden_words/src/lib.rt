@@ -17,7 +17,7 @@ const LETTER_OR_DIGIT: u8 = 2;
 const IN_LINE: u8 = 3;
 
 // A number that was read, and where the next word starts.
-#[derive(Drop)]
+#[derive(Clone, Copy)]
 pub struct Read {
     pub value: u8,
     pub next: usize,

@@ -7,7 +7,7 @@ ghost use Rattle.std.specs.Prelude.{◌≤◌, length};
 use libc::STDIN_FILENO;
 
 // How many bytes were read, and whether the input was read to its end or the array's.
-#[derive(Drop)]
+#[derive(Clone, Copy)]
 pub struct Taken {
     pub have: usize,
     pub whole: bool,

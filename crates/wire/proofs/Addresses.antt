@@ -1,7 +1,7 @@
 -- An address by its halves.
 -- Assumes nothing.
 use mathlib.Core.Path.{◌≡◌, refl, sym, ap, ◌∙◌}
-use mathlib.Core.List.{List, append_nil}
+use mathlib.Core.List.{List, append-nil}
 use Prim.Native.Nat.{ℕ, zero, suc, ◌+◌, ◌*◌, ◌<◌}
 use native.Mathlib.Nat.{zero-add}
 use native.Mathlib.Omega.{arith}
@@ -51,7 +51,7 @@ address_made s i a b ea eb = omega (arith, big_split s 4 4 i 0, high_4 s (i + 4)
 
 -- ---- eight bytes, copied
 pub eight_copied : (s d : List ℕ) (i : ℕ) → d ≡ paste (replicate 8 0) 0 (drop i s) 8 → d ≡ take 8 (drop i s)
-eight_copied s d i e = e ∙ append_nil (take 8 (drop i s))
+eight_copied s d i e = e ∙ append-nil (take 8 (drop i s))
 
 -- the first eight of eight bytes are all
 pub eight_bytes : (s r : List ℕ) → length s ≡ 8 → r ≡ take 8 (drop 0 s) → r ≡ s

@@ -8,10 +8,10 @@ ghost use Rattle.wire.specs.Address.{big_endian, address_at};
 ghost use Rattle.wire.specs.PhySet.{phys_in};
 
 // Both are below 128, and neither is accepted in the other's place: so each is a type of its own.
-#[derive(Drop)]
+#[derive(Clone, Copy)]
 pub struct PhyNumber(pub u8);
 
-#[derive(Drop)]
+#[derive(Clone, Copy)]
 pub struct ZoneGroup(pub u8);
 
 // The group of OPEN byte 20 and of a phy record's byte 1.
@@ -22,7 +22,7 @@ pub fn group_of(b: u8) -> ZoneGroup
 }
 
 // What a byte from outside names: a shelf that is joined may number its groups to 255.
-#[derive(Drop)]
+#[derive(Clone, Copy)]
 pub enum OutsideGroup {
     Group(ZoneGroup),
     NoGroup,

@@ -18,7 +18,7 @@ use sheet_lines::SHEET_MOST;
 
 // Where a text ends, and whether it is the words of a refusal. Those are for standard error, as standard output may be a file, and an empty one tells
 // that there is none.
-#[derive(Drop)]
+#[derive(Clone, Copy)]
 pub struct Text {
     pub end: usize,
     pub refused: bool,

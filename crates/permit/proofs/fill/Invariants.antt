@@ -1,0 +1,13 @@
+-- `permit::fill` meets its contract: the bytes below `at` are written.
+use Prim.Native.Nat.{◌-◌, ◌≤◌}
+use native.Mathlib.Omega.{arith}
+use borrow.Author.Rules.{rules}
+use Rattle.permit.specs.Start.{Between}
+use Rattle.permit.proofs.StartLaws.{between_start, fill_again, fill_done}
+use Rattle.permit.proofs.fill.Given as goal
+
+abbrev pub invariant-loop-at : goal.invariant-loop-at
+invariant-loop-at l = Between (λ _. l.x) l.from l.initial.bytes l.bytes l.at × (l.at ≤ l.to)
+
+abbrev pub decreases-loop-at : goal.decreases-loop-at
+decreases-loop-at l = l.to - l.at

@@ -1,0 +1,6 @@
+-- `permit::permissions_sized` meets its contract.
+use borrow.Author.Rules.{rules}
+use Rattle.permit.proofs.permissions_sized.Goals as goal
+
+pub returns : goal.returns
+returns c = rw c.table_size.ensures

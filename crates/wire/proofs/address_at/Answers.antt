@@ -1,0 +1,6 @@
+-- `wire::address_at` meets its contract.
+use Rattle.wire.proofs.Addresses.{address_copied}
+use Rattle.wire.proofs.address_at.Goals as goal
+
+pub returns : goal.returns
+returns c = search address_copied

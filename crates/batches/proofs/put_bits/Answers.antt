@@ -1,0 +1,16 @@
+-- `batches::put_bits` meets its contract: the rows below first + k have their bit.
+use Prim.Native.Nat.{◌+◌, ◌-◌, ◌≤◌}
+use native.Mathlib.Omega.{arith}
+use borrow.Author.Rules.{rules}
+use Rattle.batches.specs.Rows.{ColumnTo, byte_has}
+use Rattle.batches.proofs.RowLaws.{bits_start, bits_again, bits_done}
+use Rattle.batches.proofs.put_bits.Goals as goal
+
+pub loop-k-init : goal.loop-k-init
+loop-k-init c = search bits_start
+
+pub loop-k-preserved : goal.loop-k-preserved
+loop-k-preserved c = (search bits_again, omega arith)
+
+pub returns : goal.returns
+returns c = search bits_done

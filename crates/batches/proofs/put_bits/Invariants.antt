@@ -1,0 +1,13 @@
+-- `batches::put_bits` meets its contract: the rows below first + k have their bit.
+use Prim.Native.Nat.{◌+◌, ◌-◌, ◌≤◌}
+use native.Mathlib.Omega.{arith}
+use borrow.Author.Rules.{rules}
+use Rattle.batches.specs.Rows.{ColumnTo, byte_has}
+use Rattle.batches.proofs.RowLaws.{bits_start, bits_again, bits_done}
+use Rattle.batches.proofs.put_bits.Given as goal
+
+abbrev pub invariant-loop-k : goal.invariant-loop-k
+invariant-loop-k l = ColumnTo l.width (byte_has l.bits) l.group (l.first + l.low) l.initial.permissions l.permissions (l.first + l.k) × (l.k ≤ 8)
+
+abbrev pub decreases-loop-k : goal.decreases-loop-k
+decreases-loop-k l = 8 - l.k

@@ -1,0 +1,15 @@
+-- `election::elect_phys` meets its contract.
+use Prim.Native.Nat.{◌-◌}
+use Rattle.election.specs.Election.{phy_candidates}
+use Rattle.election.proofs.Steps.{Carried, carry_start, phys_again, phys_end}
+use native.Mathlib.Omega.{arith}
+use Rattle.election.proofs.elect_phys.Goals as goal
+
+pub loop-i-init : goal.loop-i-init
+loop-i-init c = search carry_start
+
+pub loop-i-preserved : goal.loop-i-preserved
+loop-i-preserved c = search phys_again
+
+pub returns : goal.returns
+returns c = search phys_end

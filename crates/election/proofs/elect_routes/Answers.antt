@@ -1,0 +1,15 @@
+-- `election::elect_routes` meets its contract.
+use Prim.Native.Nat.{◌-◌}
+use Rattle.election.specs.Election.{route_candidates}
+use Rattle.election.proofs.Steps.{Carried, carry_start, routes_again, routes_end}
+use native.Mathlib.Omega.{arith}
+use Rattle.election.proofs.elect_routes.Goals as goal
+
+pub loop-i-init : goal.loop-i-init
+loop-i-init c = search carry_start
+
+pub loop-i-preserved : goal.loop-i-preserved
+loop-i-preserved c = search routes_again
+
+pub returns : goal.returns
+returns c = search routes_end

@@ -1,0 +1,10 @@
+-- `links::start_up_refusal` meets its contract.
+use Rattle.tables.proofs.RefusalLaws.{rows}
+use borrow.Author.Rules.{rules}
+use Rattle.links.proofs.start_up_refusal.Goals as goal
+
+pub returns-then-not-permissions_sized : goal.returns-then-not-permissions_sized
+returns-then-not-permissions_sized c = search rows depth 16
+
+pub returns : goal.returns
+returns c = search rows depth 16

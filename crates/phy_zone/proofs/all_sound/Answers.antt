@@ -1,0 +1,18 @@
+-- `phy_zone::all_sound` meets its contract: the descriptors passed are sound.
+use Prim.Native.Nat.{◌-◌}
+use Rattle.phy_zone.proofs.PhyZoneLaws.{Judged, judged_start, judged_off, judged_again, judged_end}
+use native.Mathlib.Omega.{arith}
+use borrow.Author.Rules.{rules}
+use Rattle.phy_zone.proofs.all_sound.Goals as goal
+
+pub loop-judged-init : goal.loop-judged-init
+loop-judged-init c = search judged_start
+
+pub returns-then-not-is_sound : goal.returns-then-not-is_sound
+returns-then-not-is_sound c = search judged_off
+
+pub loop-judged-preserved : goal.loop-judged-preserved
+loop-judged-preserved c = search judged_again
+
+pub returns : goal.returns
+returns c = search judged_end

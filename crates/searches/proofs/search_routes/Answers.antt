@@ -1,0 +1,31 @@
+-- `searches::search_routes` meets its contract.
+use mathlib.Core.Path.{◌≡◌, refl}
+use Prim.Native.Nat.{◌-◌}
+use Rattle.searches.proofs.SearchLaws.{Agree, agree_start, agree_again, RoutesLeft, routes_start, routes_other, routes_down, routes_skipped, routes_here, routes_none}
+use native.Mathlib.Omega.{arith}
+use borrow.Author.Rules.{rules}
+use Rattle.searches.proofs.search_routes.Goals as goal
+
+pub search-init : goal.search-init
+search-init c = search routes_start
+
+pub bytes-init : goal.bytes-init
+bytes-init c = (refl, agree_start _ _ _ _)
+
+pub search-preserved-then-routes-at : goal.search-preserved-then-routes-at
+search-preserved-then-routes-at c = search routes_other
+
+pub bytes-preserved : goal.bytes-preserved
+bytes-preserved c = search agree_again
+
+pub search-preserved-then-not-is_usable : goal.search-preserved-then-not-is_usable
+search-preserved-then-not-is_usable c = routes_down _ _ _ _ _ _ c.search.invariant c.if-i-count.false c.bytes.invariant.0 _ _ c.route_phy-p.ensures c.is_usable.ensures c.if-not-is_usable.true
+
+pub search-preserved : goal.search-preserved
+search-preserved c = search routes_skipped
+
+pub returns-then-i-count : goal.returns-then-i-count
+returns-then-i-count c = search routes_none
+
+pub returns-in-Group : goal.returns-in-Group
+returns-in-Group c = search routes_here

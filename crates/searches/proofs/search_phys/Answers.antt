@@ -1,5 +1,6 @@
 -- `searches::search_phys` meets its contract.
-use mathlib.Core.Path.{◌≡◌, refl}
+use mathlib.Core.Path.{◌≡◌, refl, ap}
+use mathlib.Core.Bool.{not}
 use Prim.Native.Nat.{◌-◌}
 use Rattle.searches.proofs.SearchLaws.{Agree, agree_start, agree_again, PhysLeft, phys_start, phys_other, phys_down, phys_here, phys_none}
 use native.Mathlib.Omega.{arith}
@@ -18,7 +19,7 @@ pub bytes-preserved : goal.bytes-preserved
 bytes-preserved c = search agree_again
 
 pub search-preserved : goal.search-preserved
-search-preserved c = phys_down _ _ _ _ _ c.search.invariant c.if-i-count.false c.bytes.invariant.0 _ c.is_ready.ensures c.if-not-is_ready.true
+search-preserved c = phys_down _ _ _ _ _ c.search.invariant c.if-i-count.false c.bytes.invariant.0 _ c.is_ready.ensures (ap not c.if-not-is_ready.true)
 
 pub returns-then-i-count : goal.returns-then-i-count
 returns-then-i-count c = search phys_none

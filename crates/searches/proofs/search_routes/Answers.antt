@@ -1,5 +1,6 @@
 -- `searches::search_routes` meets its contract.
-use mathlib.Core.Path.{◌≡◌, refl}
+use mathlib.Core.Path.{◌≡◌, refl, ap}
+use mathlib.Core.Bool.{not}
 use Prim.Native.Nat.{◌-◌}
 use Rattle.searches.proofs.SearchLaws.{Agree, agree_start, agree_again, RoutesLeft, routes_start, routes_other, routes_down, routes_skipped, routes_here, routes_none}
 use native.Mathlib.Omega.{arith}
@@ -19,7 +20,7 @@ pub bytes-preserved : goal.bytes-preserved
 bytes-preserved c = search agree_again
 
 pub search-preserved-then-not-is_usable : goal.search-preserved-then-not-is_usable
-search-preserved-then-not-is_usable c = routes_down _ _ _ _ _ _ c.search.invariant c.if-i-count.false c.bytes.invariant.0 _ _ c.route_phy-p.ensures c.is_usable.ensures c.if-not-is_usable.true
+search-preserved-then-not-is_usable c = routes_down _ _ _ _ _ _ c.search.invariant c.if-i-count.false c.bytes.invariant.0 _ _ c.route_phy-p.ensures c.is_usable.ensures (ap not c.if-not-is_usable.true)
 
 pub search-preserved : goal.search-preserved
 search-preserved c = search routes_skipped

@@ -10,4 +10,4 @@ pub returns-in-9 : goal.returns-in-9
 returns-in-9 c = search picks_batch
 
 pub returns-in-0-to-7 : goal.returns-in-0-to-7
-returns-in-0-to-7 c = picks_none _ _ c.in-0-to-7.rest.0.1 c.in-0-to-7.rest.1
+returns-in-0-to-7 c = search picks_none

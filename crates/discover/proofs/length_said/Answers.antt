@@ -1,0 +1,9 @@
+-- `discover::length_said` meets its contract.
+use mathlib.Core.Path.{refl}
+use Rattle.discover.specs.Discover.{length_said}
+use borrow.Author.Rules.{rules}
+use Rattle.discover.proofs.length_said.Goals as goal
+
+pub returns : goal.returns
+unfolding length_said
+returns c = refl

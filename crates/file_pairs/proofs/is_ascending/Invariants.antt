@@ -1,0 +1,13 @@
+-- `file_pairs::is_ascending` meets its contract.
+use borrow.Author.Rules.{rules}
+use native.Mathlib.Omega.{arith}
+use Prim.Native.Nat.{◌-◌, ◌/◌}
+use lib.ListN.{length}
+use Rattle.file_pairs.proofs.Records.{Judged, judged_start, judged_again, judged_end}
+use Rattle.file_pairs.proofs.is_ascending.Given as goal
+
+abbrev pub invariant-loop-i : goal.invariant-loop-i
+invariant-loop-i l = Judged l.width l.records l.good l.low l.i
+
+abbrev pub decreases-loop-i : goal.decreases-loop-i
+decreases-loop-i l = length l.records / 2 - l.i

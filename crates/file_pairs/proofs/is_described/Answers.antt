@@ -1,0 +1,21 @@
+-- `file_pairs::is_described` meets its contract.
+use borrow.Author.Rules.{rules}
+use native.Mathlib.Omega.{arith}
+use Prim.Native.Nat.{◌-◌}
+use Rattle.wire.proofs.RunLaws.{Judged, judged_off, judged_again, judged_end}
+use Rattle.permit.specs.Permission.{groups}
+use Rattle.file_pairs.specs.Described.{fair_row, described}
+use Rattle.file_pairs.proofs.DescribedLaws.{table_start}
+use Rattle.file_pairs.proofs.is_described.Goals as goal
+
+pub loop-a-init : goal.loop-a-init
+loop-a-init c = search table_start
+
+pub returns-then-not-is_row_fair : goal.returns-then-not-is_row_fair
+returns-then-not-is_row_fair c = search judged_off
+
+pub loop-a-preserved : goal.loop-a-preserved
+loop-a-preserved c = search judged_again
+
+pub returns : goal.returns
+returns c = search judged_end

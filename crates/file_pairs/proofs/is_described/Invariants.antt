@@ -1,0 +1,15 @@
+-- `file_pairs::is_described` meets its contract.
+use borrow.Author.Rules.{rules}
+use native.Mathlib.Omega.{arith}
+use Prim.Native.Nat.{◌-◌}
+use Rattle.wire.proofs.RunLaws.{Judged, judged_off, judged_again, judged_end}
+use Rattle.permit.specs.Permission.{groups}
+use Rattle.file_pairs.specs.Described.{fair_row, described}
+use Rattle.file_pairs.proofs.DescribedLaws.{table_start}
+use Rattle.file_pairs.proofs.is_described.Given as goal
+
+abbrev pub invariant-loop-a : goal.invariant-loop-a
+invariant-loop-a l = Judged (described l.width l.permissions) (fair_row l.width l.permissions) (groups l.width) l.a
+
+abbrev pub decreases-loop-a : goal.decreases-loop-a
+decreases-loop-a l = groups l.width - l.a

@@ -1,0 +1,12 @@
+-- `file_pairs::switch_on` meets its contract.
+use native.Mathlib.Omega.{arith}
+use Prim.Native.Nat.{◌-◌, ◌/◌}
+use lib.ListN.{length}
+use Rattle.file_pairs.proofs.Records.{Switched, switched_start, switch-ready, switched_again, switched_end}
+use Rattle.file_pairs.proofs.switch_on.Given as goal
+
+abbrev pub invariant-loop-i : goal.invariant-loop-i
+invariant-loop-i l = Switched l.width l.initial.permissions l.records l.permissions l.i
+
+abbrev pub decreases-loop-i : goal.decreases-loop-i
+decreases-loop-i l = length l.records / 2 - l.i

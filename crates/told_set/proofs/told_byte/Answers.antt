@@ -1,0 +1,28 @@
+-- `told_set::told_byte` meets its contract.
+use mathlib.Core.Logic.{⊎_elim}
+use Prim.Native.Nat.{◌-◌}
+use Rattle.told_set.proofs.Chains.{Rising, rise_start, rise_there, rise_room, rise_twice, rise_on, rise_off, rise_fits, rise_end}
+use native.Mathlib.Omega.{arith}
+use borrow.Author.Rules.{rules}
+use Rattle.told_set.proofs.told_byte.Goals as goal
+
+pub loop-i-init : goal.loop-i-init
+loop-i-init c = search rise_start
+
+pub is_told-told-requires : goal.is_told-told-requires
+is_told-told-requires c = search (rules, rise_there)
+
+pub overflow_add-byte : goal.overflow_add-byte
+overflow_add-byte c = search rise_room
+
+pub overflow_add-bit : goal.overflow_add-bit
+overflow_add-bit c = search rise_twice
+
+pub loop-i-preserved : goal.loop-i-preserved
+loop-i-preserved c = ⊎_elim (λ w. search rise_on) (λ w. search rise_off) c.if-told.branch
+
+pub overflow_cast-result : goal.overflow_cast-result
+overflow_cast-result c = search rise_fits
+
+pub returns : goal.returns
+returns c = search rise_end

@@ -1,0 +1,21 @@
+-- `told_set::write_told_set` meets its contract.
+use Prim.Native.Nat.{◌-◌}
+use Rattle.told_set.proofs.Chains.{Telling, tell_start, tell_room, tell_again, tell_end}
+use native.Mathlib.Omega.{arith}
+use borrow.Author.Rules.{rules}
+use Rattle.told_set.proofs.write_told_set.Goals as goal
+
+pub loop-k-init : goal.loop-k-init
+loop-k-init c = search tell_start
+
+pub told_byte-requires : goal.told_byte-requires
+told_byte-requires c = (search rules, search rules, search rules, c.loop-k.invariant.kept (omega arith))
+
+pub bounds-set-k : goal.bounds-set-k
+bounds-set-k c = search tell_room
+
+pub loop-k-preserved : goal.loop-k-preserved
+loop-k-preserved c = search tell_again
+
+pub returns : goal.returns
+returns c = search tell_end

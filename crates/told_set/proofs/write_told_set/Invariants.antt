@@ -1,0 +1,12 @@
+-- `told_set::write_told_set` meets its contract.
+use Prim.Native.Nat.{◌-◌}
+use Rattle.told_set.proofs.Chains.{Telling, tell_start, tell_room, tell_again, tell_end}
+use native.Mathlib.Omega.{arith}
+use borrow.Author.Rules.{rules}
+use Rattle.told_set.proofs.write_told_set.Given as goal
+
+abbrev pub invariant-loop-k : goal.invariant-loop-k
+invariant-loop-k l = Telling l.width l.phys l.permissions l.phy.0 l.source.0 l.initial.set l.set l.slots l.next l.k
+
+abbrev pub decreases-loop-k : goal.decreases-loop-k
+decreases-loop-k l = l.count - l.k

@@ -2,7 +2,7 @@
 -- Assumes nothing.
 use mathlib.Core.Path.{◌≡◌, refl, sym, ap, ap₂, ◌∙◌, subst, subst₂}
 use mathlib.Core.Bool.{Bool, true, false, cond, ◌&&◌, ◌||◌, and_comm, or_comm}
-use mathlib.Core.List.{List, append-nil}
+use mathlib.Core.List.{List}
 use mathlib.Core.Logic.{◌⊎◌, inl, inr, ⊎_elim}
 use Prim.Native.Nat.{ℕ, zero, suc, ◌+◌, ◌-◌, ◌*◌, ◌/◌, ◌%◌, ◌^◌, ◌≤◌, ◌<◌}
 use native.Mathlib.Nat.{zero-add, zero-div, mod-lt, mul-le-mul, div-add-mod', div-lt_iff_lt-mul}
@@ -10,10 +10,10 @@ use native.Mathlib.Decide.{dec_lt, ℕ_discrete}
 use native.Mathlib.Omega.{arith}
 use borrow.Author.Tests.{eq-eqb, ne_eqb, eqb-true}
 use lib.Dec.{eqb}
-use lib.ListN.{length, get_or, set, length-set, drop_of_length-le}
+use lib.ListN.{length, get_or, set, length-set}
 use lib.Arith.{digits_lt, digits_div, digits_mod}
 use lib.Seq.{get_or-set_same, get_or-set_other, set_out, ext_get_or}
-use Rattle.wire.specs.Bits.{bit, set_bit, tab}
+use Rattle.wire.specs.Bits.{bit, set_bit}
 use Rattle.wire.proofs.BitLaws.{each8, eqb_num, bit-same, bit_other, bit_fits}
 use Rattle.wire.proofs.Loops.{length-tab, get_or-tab}
 use Rattle.permit.specs.Permission.{groups, table_size, permissions_sized, place, P, set_P, set_both, start_byte, start_table, Width, Table}

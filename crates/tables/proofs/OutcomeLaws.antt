@@ -1,7 +1,7 @@
 -- Outcomes: a call's two ends, that a contract of one equation leaves one outcome, and that a refusal changes nothing.
 -- Assumes nothing.
 use mathlib.Core.Path.{◌≡◌, refl, sym, ap, ap₂, ◌∙◌}
-use mathlib.Core.List.{List, [], ◌∷◌}
+use mathlib.Core.List.{List}
 use Prim.Native.Nat.{ℕ, zero, suc}
 use native.Mathlib.Omega.{arith}
 use Rattle.tables.specs.Outcome.{Answer, refusal, answer, Out, out, outcome}

@@ -1,5 +1,5 @@
 -- "Numbered refusals, in order of checking", as data: a call's checks are a list of rows, a number and the test on which it is given.
-use Rattle.std.specs.Prelude.{◌≡◌, Bool, true, false, cond, not, List, [], ◌∷◌, ℕ, ◌≤◌, ◌<◌, ltb, leb, eqb}
+use Rattle.std.specs.Prelude.{◌≡◌, Bool, false, cond, not, List, [], ◌∷◌, ℕ, ◌≤◌, ◌<◌, ltb, leb, eqb}
 
 -- a test of two numbers, or that something is off or on
 pub data Test : Type 0 where

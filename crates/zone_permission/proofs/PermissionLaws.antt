@@ -1,22 +1,22 @@
 -- C1h: the checks by operation, and what an accepted request leaves.
 -- Assumes nothing.
-use mathlib.Core.Path.{◌≡◌, refl, sym, ap, ◌∙◌}
+use mathlib.Core.Path.{◌≡◌, refl, sym, ◌∙◌}
 use mathlib.Core.Bool.{Bool, true, false, not, cond, ◌&&◌}
 use mathlib.Core.List.{List, [], ◌∷◌, ◌++◌}
-use Prim.Native.Nat.{ℕ, zero, suc, ◌+◌, ◌*◌, ◌/◌, ◌%◌, ◌≤◌, ◌<◌}
+use Prim.Native.Nat.{ℕ, zero, suc, ◌+◌, ◌*◌, ◌%◌, ◌≤◌, ◌<◌}
 use native.Mathlib.Decide.{ℕ_discrete, dec_lt}
 use native.Mathlib.Omega.{arith}
-use borrow.Author.Tests.{eq-eqb, ne_eqb, lt-ltb, le-ltb, ltb-true, ltb-false}
+use borrow.Author.Tests.{eq-eqb, ne_eqb, lt-ltb, le-ltb, ltb-false}
 use lib.Dec.{eqb, ltb}
 use lib.ListN.{length, get_or, drop}
 use Rattle.permit.specs.Permission.{set_both, groups}
-use Rattle.permit.specs.Orders.{Order, order, apply, batch_orders, rows_end}
+use Rattle.permit.specs.Orders.{order, apply, batch_orders, rows_end}
 use Rattle.permit.specs.History.{Zone, Valid}
 use Rattle.permit.proofs.HistoryLaws.{valid_batch}
-use Rattle.tables.specs.Refusals.{Check, first_refusal, Clear}
+use Rattle.tables.specs.Refusals.{first_refusal}
 use Rattle.tables.specs.Phys.{ready_set, empty_set}
-use Rattle.tables.proofs.RefusalLaws.{first, next, clear, agrees_not, Numbered}
-use Rattle.requests.specs.Requests.{right, Reply, replied, Leaves}
+use Rattle.tables.proofs.RefusalLaws.{clear, agrees_not}
+use Rattle.requests.specs.Requests.{right, Leaves}
 use Rattle.requests.proofs.RequestLaws.{leaves_down, leaves_done}
 use Rattle.zone_permission.specs.ZonePermission.{operation, source, target, new_value, start_row, row_count, single_checks, batch_checks, operation_checks, permission_checks, orders_of, Accepted, permission_set, permission_reply}
 

@@ -1,6 +1,5 @@
 -- "C1h CONFIGURE ZONE PERMISSION (004's layout; its number is open there and is ours)."
 use Rattle.std.specs.Prelude.{Bool, true, cond, ◌&&◌, List, [], ◌∷◌, ◌≡◌, ℕ, ◌+◌, ◌*◌, ◌/◌, ◌%◌, ◌≤◌, eqb, ltb, length, get_or, drop}
-use Rattle.wire.specs.Groups.{group_of}
 use Rattle.permit.specs.Permission.{groups}
 use Rattle.permit.specs.Orders.{Order, order, apply, batch_orders, rows_end}
 use Rattle.tables.specs.Refusals.{Check, refuse, below, at_most, differ, off, on, first_refusal}

@@ -1,16 +1,8 @@
 -- `batches::batch` meets its contract: the rows that are left, done to the table as it is, give what the whole batch gives.
 -- the code's part of a slice from 12 to its end is what is left after 12
-use mathlib.Core.Path.{◌≡◌}
-use mathlib.Core.List.{List}
-use Prim.Native.Nat.{ℕ, ◌+◌, ◌-◌, ◌<◌}
-use native.Mathlib.Omega.{arith}
-use borrow.Author.Rules.{rules}
-use lib.ListN.{length, take, drop, length-take, length-drop}
-use lib.Seq.{take_all}
-use Rattle.permit.specs.Permission.{groups, P}
-use Rattle.permit.specs.Orders.{apply, row_orders}
-use Rattle.permit.proofs.HistoryLaws.{BatchLeft, batch-start, batch_again, batch_done}
-use Rattle.permit.proofs.ReachLaws.{rows_end_lem}
+use Prim.Native.Nat.{◌-◌}
+use lib.ListN.{drop}
+use Rattle.permit.proofs.HistoryLaws.{BatchLeft}
 use Rattle.batches.proofs.batch.Given as goal
 
 abbrev pub invariant-loop-i : goal.invariant-loop-i

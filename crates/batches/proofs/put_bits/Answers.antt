@@ -1,8 +1,5 @@
 -- `batches::put_bits` meets its contract: the rows below first + k have their bit.
-use Prim.Native.Nat.{◌+◌, ◌-◌, ◌≤◌}
 use native.Mathlib.Omega.{arith}
-use borrow.Author.Rules.{rules}
-use Rattle.batches.specs.Rows.{ColumnTo, byte_has}
 use Rattle.batches.proofs.RowLaws.{bits_start, bits_again, bits_done}
 use Rattle.batches.proofs.put_bits.Goals as goal
 

@@ -1,10 +1,7 @@
 -- `batches::put_column` meets its contract: the rows of the bytes before q have their bit.
 use Prim.Native.Nat.{◌-◌, ◌*◌}
-use native.Mathlib.Omega.{arith}
-use borrow.Author.Rules.{rules}
 use Rattle.permit.specs.Permission.{P}
 use Rattle.batches.specs.Rows.{ColumnTo}
-use Rattle.batches.proofs.RowLaws.{bytes_start, bytes_again, bytes_done}
 use Rattle.batches.proofs.put_column.Given as goal
 
 abbrev pub invariant-loop-q : goal.invariant-loop-q

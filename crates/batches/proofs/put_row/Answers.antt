@@ -1,7 +1,6 @@
 -- `batches::put_row` meets its contract.
 use Prim.Native.Nat.{◌+◌, ◌-◌, ◌*◌}
 use native.Mathlib.Omega.{arith}
-use borrow.Author.Rules.{rules}
 use Rattle.batches.proofs.RowLaws.{row_put}
 use Rattle.batches.proofs.put_row.Goals as goal
 

@@ -1,6 +1,5 @@
 -- `discover::describe` meets its contract.
 use Rattle.discover.proofs.DiscoverLaws.{describes}
-use borrow.Author.Rules.{rules}
 use Rattle.discover.proofs.describe.Goals as goal
 
 pub returns : goal.returns

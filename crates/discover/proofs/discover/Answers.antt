@@ -3,7 +3,6 @@ use native.Mathlib.Omega.{arith}
 use Rattle.requests.proofs.RequestLaws.{leaves_down}
 use Rattle.discover.specs.Discover.{discover_reply}
 use Rattle.discover.proofs.DiscoverLaws.{discover_long, discover_there, discover_done}
-use borrow.Author.Rules.{rules}
 use Rattle.discover.proofs.discover.Goals as goal
 
 pub returns-then-result-ne0 : goal.returns-then-result-ne0

@@ -1,6 +1,5 @@
 -- `discover::discover_result` meets its contract.
 use Rattle.tables.proofs.RefusalLaws.{rows, held_at_least, held_below}
-use borrow.Author.Rules.{rules}
 use Rattle.discover.proofs.discover_result.Goals as goal
 
 pub returns-then-request-ne12 : goal.returns-then-request-ne12

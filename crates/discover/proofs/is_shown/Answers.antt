@@ -1,6 +1,5 @@
 -- `discover::is_shown` meets its contract.
 use Rattle.discover.proofs.DiscoverLaws.{shown_ignoring, shown_reached}
-use borrow.Author.Rules.{rules}
 use Rattle.discover.proofs.is_shown.Goals as goal
 
 pub returns-then-request-eq1 : goal.returns-then-request-eq1

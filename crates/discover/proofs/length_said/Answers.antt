@@ -1,7 +1,6 @@
 -- `discover::length_said` meets its contract.
 use mathlib.Core.Path.{refl}
 use Rattle.discover.specs.Discover.{length_said}
-use borrow.Author.Rules.{rules}
 use Rattle.discover.proofs.length_said.Goals as goal
 
 pub returns : goal.returns

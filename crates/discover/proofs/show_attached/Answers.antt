@@ -2,7 +2,6 @@
 use lib.ListN.{length-set}
 use native.Mathlib.Omega.{arith}
 use Rattle.discover.proofs.DiscoverLaws.{attached_shown, not_shown, same-shown}
-use borrow.Author.Rules.{rules}
 use Rattle.discover.proofs.show_attached.Goals as goal
 
 pub bounds-response-32 : goal.bounds-response-32

@@ -3,7 +3,6 @@ use lib.ListN.{length-set}
 use native.Mathlib.Omega.{arith}
 use Rattle.wire.proofs.BitLaws.{byte_le}
 use Rattle.discover.proofs.DiscoverLaws.{fields_stored}
-use borrow.Author.Rules.{rules}
 use Rattle.discover.proofs.write_fields.Goals as goal
 
 pub bounds-response-5 : goal.bounds-response-5

@@ -1,6 +1,5 @@
 -- `election::consider` meets its contract.
 use Rattle.election.proofs.Steps.{no_address, stands}
-use borrow.Author.Rules.{rules}
 use Rattle.election.proofs.consider.Goals as goal
 
 pub returns-then-address-eq0 : goal.returns-then-address-eq0

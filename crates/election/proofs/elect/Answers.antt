@@ -2,7 +2,6 @@
 use Rattle.tables.proofs.OutcomeLaws.{refuses, gives}
 use Rattle.election.proofs.Steps.{elect_most, supervises}
 use Rattle.election.proofs.ElectionLaws.{elected_fits}
-use borrow.Author.Rules.{rules}
 use Rattle.election.proofs.elect.Goals as goal
 
 pub returns-then-no-ne0 : goal.returns-then-no-ne0

@@ -1,6 +1,5 @@
 -- `election::elect_both` meets its contract.
 use Rattle.election.proofs.Steps.{carried}
-use borrow.Author.Rules.{rules}
 use Rattle.election.proofs.elect_both.Goals as goal
 
 pub returns : goal.returns

@@ -1,8 +1,5 @@
 -- `election::elect_phys` meets its contract.
-use Prim.Native.Nat.{◌-◌}
-use Rattle.election.specs.Election.{phy_candidates}
-use Rattle.election.proofs.Steps.{Carried, carry_start, phys_again, phys_end}
-use native.Mathlib.Omega.{arith}
+use Rattle.election.proofs.Steps.{carry_start, phys_again, phys_end}
 use Rattle.election.proofs.elect_phys.Goals as goal
 
 pub loop-i-init : goal.loop-i-init

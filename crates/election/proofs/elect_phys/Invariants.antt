@@ -1,8 +1,7 @@
 -- `election::elect_phys` meets its contract.
 use Prim.Native.Nat.{◌-◌}
 use Rattle.election.specs.Election.{phy_candidates}
-use Rattle.election.proofs.Steps.{Carried, carry_start, phys_again, phys_end}
-use native.Mathlib.Omega.{arith}
+use Rattle.election.proofs.Steps.{Carried}
 use Rattle.election.proofs.elect_phys.Given as goal
 
 abbrev pub invariant-loop-i : goal.invariant-loop-i

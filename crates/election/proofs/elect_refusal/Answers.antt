@@ -1,6 +1,5 @@
 -- `election::elect_refusal` meets its contract.
 use Rattle.tables.proofs.RefusalLaws.{rows}
-use borrow.Author.Rules.{rules}
 use Rattle.election.proofs.elect_refusal.Goals as goal
 
 pub returns-then-not-phys_sized : goal.returns-then-not-phys_sized

@@ -1,8 +1,5 @@
 -- `election::elect_routes` meets its contract.
-use Prim.Native.Nat.{◌-◌}
-use Rattle.election.specs.Election.{route_candidates}
-use Rattle.election.proofs.Steps.{Carried, carry_start, routes_again, routes_end}
-use native.Mathlib.Omega.{arith}
+use Rattle.election.proofs.Steps.{carry_start, routes_again, routes_end}
 use Rattle.election.proofs.elect_routes.Goals as goal
 
 pub loop-i-init : goal.loop-i-init

@@ -1,8 +1,7 @@
 -- `election::elect_routes` meets its contract.
 use Prim.Native.Nat.{◌-◌}
 use Rattle.election.specs.Election.{route_candidates}
-use Rattle.election.proofs.Steps.{Carried, carry_start, routes_again, routes_end}
-use native.Mathlib.Omega.{arith}
+use Rattle.election.proofs.Steps.{Carried}
 use Rattle.election.proofs.elect_routes.Given as goal
 
 abbrev pub invariant-loop-i : goal.invariant-loop-i

@@ -1,6 +1,5 @@
 -- `election::with_phy` meets its contract.
 use Rattle.election.proofs.Steps.{lower, zero_priority, not_ready_lem, phy_considered}
-use borrow.Author.Rules.{rules}
 use Rattle.election.proofs.with_phy.Goals as goal
 
 pub returns-then-not-is_ready : goal.returns-then-not-is_ready

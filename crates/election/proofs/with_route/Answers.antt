@@ -1,6 +1,5 @@
 -- `election::with_route` meets its contract.
 use Rattle.election.proofs.Steps.{lower, zero_priority, no_group, route_considered}
-use borrow.Author.Rules.{rules}
 use Rattle.election.proofs.with_route.Goals as goal
 
 pub returns-then-priority-b : goal.returns-then-priority-b

@@ -1,9 +1,5 @@
 -- `file_pairs::is_ascending` meets its contract.
-use borrow.Author.Rules.{rules}
-use native.Mathlib.Omega.{arith}
-use Prim.Native.Nat.{◌-◌, ◌/◌}
-use lib.ListN.{length}
-use Rattle.file_pairs.proofs.Records.{Judged, judged_start, judged_again, judged_end}
+use Rattle.file_pairs.proofs.Records.{judged_start, judged_again, judged_end}
 use Rattle.file_pairs.proofs.is_ascending.Goals as goal
 
 pub loop-i-init : goal.loop-i-init

@@ -1,10 +1,5 @@
 -- `file_pairs::is_described` meets its contract.
-use borrow.Author.Rules.{rules}
-use native.Mathlib.Omega.{arith}
-use Prim.Native.Nat.{◌-◌}
-use Rattle.wire.proofs.RunLaws.{Judged, judged_off, judged_again, judged_end}
-use Rattle.permit.specs.Permission.{groups}
-use Rattle.file_pairs.specs.Described.{fair_row, described}
+use Rattle.wire.proofs.RunLaws.{judged_off, judged_again, judged_end}
 use Rattle.file_pairs.proofs.DescribedLaws.{table_start}
 use Rattle.file_pairs.proofs.is_described.Goals as goal
 

@@ -1,11 +1,8 @@
 -- `file_pairs::is_described` meets its contract.
-use borrow.Author.Rules.{rules}
-use native.Mathlib.Omega.{arith}
 use Prim.Native.Nat.{◌-◌}
-use Rattle.wire.proofs.RunLaws.{Judged, judged_off, judged_again, judged_end}
+use Rattle.wire.proofs.RunLaws.{Judged}
 use Rattle.permit.specs.Permission.{groups}
 use Rattle.file_pairs.specs.Described.{fair_row, described}
-use Rattle.file_pairs.proofs.DescribedLaws.{table_start}
 use Rattle.file_pairs.proofs.is_described.Given as goal
 
 abbrev pub invariant-loop-a : goal.invariant-loop-a

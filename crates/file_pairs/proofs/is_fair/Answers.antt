@@ -1,6 +1,5 @@
 -- `file_pairs::is_fair` meets its contract.
 use Rattle.file_pairs.proofs.DescribedLaws.{fair_off, fair_high, fair_low}
-use borrow.Author.Rules.{rules}
 use Rattle.file_pairs.proofs.is_fair.Goals as goal
 
 pub returns-then-on-permitted : goal.returns-then-on-permitted

@@ -1,10 +1,6 @@
 -- `file_pairs::is_row_fair` meets its contract.
-use borrow.Author.Rules.{rules}
 use native.Mathlib.Omega.{arith}
-use Prim.Native.Nat.{◌-◌}
-use Rattle.wire.proofs.RunLaws.{Judged, judged_off, judged_again, judged_end}
-use Rattle.permit.specs.Permission.{groups}
-use Rattle.file_pairs.specs.Described.{fair, fair_row}
+use Rattle.wire.proofs.RunLaws.{judged_off, judged_again, judged_end}
 use Rattle.file_pairs.proofs.DescribedLaws.{row_start}
 use Rattle.file_pairs.proofs.is_row_fair.Goals as goal
 

@@ -1,11 +1,8 @@
 -- `file_pairs::put_pairs` meets its contract.
 use Prim.Native.Nat.{◌-◌}
-use borrow.Author.Rules.{rules}
 use Rattle.permit.specs.Permission.{groups}
 use Rattle.file_pairs.specs.Pairs.{row_records}
-use Rattle.lines.proofs.Putting.{Putting, putting_start, putting_length, putting_again}
-use Rattle.file_pairs.proofs.Writes.{pairs_room, pairs_end}
-use native.Mathlib.Omega.{arith}
+use Rattle.lines.proofs.Putting.{Putting}
 use Rattle.file_pairs.proofs.put_pairs.Given as goal
 
 abbrev pub invariant-loop-a : goal.invariant-loop-a

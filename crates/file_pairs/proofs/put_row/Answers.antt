@@ -1,9 +1,6 @@
 -- `file_pairs::put_row` meets its contract.
-use Prim.Native.Nat.{◌-◌}
 use borrow.Author.Rules.{rules}
-use Rattle.permit.specs.Permission.{groups}
-use Rattle.file_pairs.specs.Pairs.{pair_record}
-use Rattle.lines.proofs.Putting.{Putting, putting_start, putting_length, putting_again}
+use Rattle.lines.proofs.Putting.{putting_start, putting_length, putting_again}
 use Rattle.file_pairs.proofs.Writes.{row_room, row_end}
 use native.Mathlib.Omega.{arith}
 use Rattle.file_pairs.proofs.put_row.Goals as goal

@@ -1,11 +1,8 @@
 -- `file_pairs::put_row` meets its contract.
 use Prim.Native.Nat.{◌-◌}
-use borrow.Author.Rules.{rules}
 use Rattle.permit.specs.Permission.{groups}
 use Rattle.file_pairs.specs.Pairs.{pair_record}
-use Rattle.lines.proofs.Putting.{Putting, putting_start, putting_length, putting_again}
-use Rattle.file_pairs.proofs.Writes.{row_room, row_end}
-use native.Mathlib.Omega.{arith}
+use Rattle.lines.proofs.Putting.{Putting}
 use Rattle.file_pairs.proofs.put_row.Given as goal
 
 abbrev pub invariant-loop-b : goal.invariant-loop-b

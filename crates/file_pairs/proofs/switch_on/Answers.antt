@@ -1,8 +1,5 @@
 -- `file_pairs::switch_on` meets its contract.
-use native.Mathlib.Omega.{arith}
-use Prim.Native.Nat.{◌-◌, ◌/◌}
-use lib.ListN.{length}
-use Rattle.file_pairs.proofs.Records.{Switched, switched_start, switch-ready, switched_again, switched_end}
+use Rattle.file_pairs.proofs.Records.{switched_start, switch-ready, switched_again, switched_end}
 use Rattle.file_pairs.proofs.switch_on.Goals as goal
 
 pub loop-i-init : goal.loop-i-init

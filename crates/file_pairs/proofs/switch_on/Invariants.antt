@@ -1,8 +1,7 @@
 -- `file_pairs::switch_on` meets its contract.
-use native.Mathlib.Omega.{arith}
 use Prim.Native.Nat.{◌-◌, ◌/◌}
 use lib.ListN.{length}
-use Rattle.file_pairs.proofs.Records.{Switched, switched_start, switch-ready, switched_again, switched_end}
+use Rattle.file_pairs.proofs.Records.{Switched}
 use Rattle.file_pairs.proofs.switch_on.Given as goal
 
 abbrev pub invariant-loop-i : goal.invariant-loop-i

@@ -1,6 +1,6 @@
 -- `lines::decimal_digits` meets its contract.
 use lib.ListN.{length-set}
-use Rattle.lines.proofs.Lines.{Spelt, spell_start, spell_room, spell_again, spell_end}
+use Rattle.lines.proofs.Lines.{spell_start, spell_room, spell_again, spell_end}
 use native.Mathlib.Omega.{arith}
 use Rattle.lines.proofs.decimal_digits.Goals as goal
 

@@ -1,7 +1,5 @@
 -- `lines::decimal_digits` meets its contract.
-use lib.ListN.{length-set}
-use Rattle.lines.proofs.Lines.{Spelt, spell_start, spell_room, spell_again, spell_end}
-use native.Mathlib.Omega.{arith}
+use Rattle.lines.proofs.Lines.{Spelt}
 use Rattle.lines.proofs.decimal_digits.Given as goal
 
 abbrev pub invariant-loop-rest : goal.invariant-loop-rest

@@ -1,6 +1,5 @@
 -- `lines::put_byte` meets its contract.
 use Rattle.lines.proofs.Lines.{byte_done}
-use borrow.Author.Rules.{rules}
 use Rattle.lines.proofs.put_byte.Goals as goal
 
 pub returns : goal.returns

@@ -1,6 +1,5 @@
 -- `lines::put_bytes` meets its contract.
 use Rattle.lines.proofs.Lines.{copy_done}
-use borrow.Author.Rules.{rules}
 use Rattle.lines.proofs.put_bytes.Goals as goal
 
 pub returns : goal.returns

@@ -1,6 +1,5 @@
 -- `lines::put_count` meets its contract.
 use Rattle.lines.proofs.Lines.{count_done}
-use borrow.Author.Rules.{rules}
 use Rattle.lines.proofs.put_count.Goals as goal
 
 pub returns : goal.returns

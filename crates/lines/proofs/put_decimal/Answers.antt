@@ -1,7 +1,6 @@
 -- `lines::put_decimal` meets its contract.
 use Rattle.lines.proofs.Lines.{decimal_done}
 use native.Mathlib.Omega.{arith}
-use borrow.Author.Rules.{rules}
 use Rattle.lines.proofs.put_decimal.Goals as goal
 
 pub returns : goal.returns

@@ -1,6 +1,5 @@
 -- `lines::put_forward` meets its contract.
 use Rattle.lines.proofs.Lines.{forward_done}
-use borrow.Author.Rules.{rules}
 use Rattle.lines.proofs.put_forward.Goals as goal
 
 pub returns : goal.returns

@@ -2,7 +2,6 @@
 use lib.ListN.{length-set}
 use Rattle.lines.proofs.Lines.{hex_done}
 use native.Mathlib.Omega.{arith}
-use borrow.Author.Rules.{rules}
 use Rattle.lines.proofs.put_hex.Goals as goal
 
 pub bounds-text-at-2 : goal.bounds-text-at-2

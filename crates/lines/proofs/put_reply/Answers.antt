@@ -1,6 +1,5 @@
 -- `lines::put_reply` meets its contract.
 use Rattle.lines.proofs.Lines.{reply_done}
-use borrow.Author.Rules.{rules}
 use Rattle.lines.proofs.put_reply.Goals as goal
 
 pub returns : goal.returns

@@ -1,7 +1,6 @@
 -- `lines::put_short` meets its contract.
 use Rattle.lines.proofs.Lines.{short_done}
 use native.Mathlib.Omega.{arith}
-use borrow.Author.Rules.{rules}
 use Rattle.lines.proofs.put_short.Goals as goal
 
 pub returns : goal.returns

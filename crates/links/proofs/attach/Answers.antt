@@ -2,7 +2,6 @@
 use lib.ListN.{length-set}
 use Rattle.links.proofs.LinkLaws.{stored_all, same_stored}
 use native.Mathlib.Omega.{arith}
-use borrow.Author.Rules.{rules}
 use Rattle.links.proofs.attach.Goals as goal
 
 pub bounds-phys-i-2 : goal.bounds-phys-i-2

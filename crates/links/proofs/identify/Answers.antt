@@ -1,7 +1,6 @@
 -- `links::identify` meets its contract.
 use Rattle.tables.proofs.ArrivalLaws.{own_there}
 use Rattle.tables.proofs.OutcomeLaws.{refuses, gives}
-use borrow.Author.Rules.{rules}
 use Rattle.links.proofs.identify.Goals as goal
 
 pub returns-then-no-ne0 : goal.returns-then-no-ne0

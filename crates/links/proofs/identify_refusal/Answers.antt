@@ -2,7 +2,6 @@
 use Rattle.tables.proofs.RefusalLaws.{rows}
 use Rattle.tables.proofs.ArrivalLaws.{arrival_front, arrival_back}
 use Rattle.links.proofs.LinkLaws.{same_as, other_than}
-use borrow.Author.Rules.{rules}
 use Rattle.links.proofs.identify_refusal.Goals as goal
 
 pub returns-then-no-ne0 : goal.returns-then-no-ne0

@@ -1,6 +1,5 @@
 -- `links::moved` meets its contract.
 use Rattle.links.proofs.LinkLaws.{unknown, compared}
-use borrow.Author.Rules.{rules}
 use Rattle.links.proofs.moved.Goals as goal
 
 pub returns-then-not-is_known : goal.returns-then-not-is_known

@@ -1,7 +1,6 @@
 -- `links::start_up_at` meets its contract.
 use Rattle.tables.proofs.OutcomeLaws.{refuses, gives}
 use Rattle.links.proofs.LinkLaws.{sized}
-use borrow.Author.Rules.{rules}
 use Rattle.links.proofs.start_up_at.Goals as goal
 
 pub returns-then-no-ne0 : goal.returns-then-no-ne0

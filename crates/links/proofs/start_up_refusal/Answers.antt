@@ -1,6 +1,5 @@
 -- `links::start_up_refusal` meets its contract.
 use Rattle.tables.proofs.RefusalLaws.{rows}
-use borrow.Author.Rules.{rules}
 use Rattle.links.proofs.start_up_refusal.Goals as goal
 
 pub returns-then-not-permissions_sized : goal.returns-then-not-permissions_sized

@@ -1,6 +1,5 @@
 -- `links::unzone` meets its contract.
 use Rattle.links.proofs.LinkLaws.{cleared, kept}
-use borrow.Author.Rules.{rules}
 use Rattle.links.proofs.unzone.Goals as goal
 
 pub returns-then-moved : goal.returns-then-moved

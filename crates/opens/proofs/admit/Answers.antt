@@ -2,7 +2,6 @@
 use mathlib.Core.Path.{refl}
 use Rattle.opens.specs.Open.{sent}
 use Rattle.opens.proofs.OpenSteps.{admit_bad, admit_violation, admit_forward, sent_forward}
-use borrow.Author.Rules.{rules}
 use Rattle.opens.proofs.admit.Goals as goal
 
 pub returns-then-same_port : goal.returns-then-same_port

@@ -1,7 +1,6 @@
 -- `opens::byte20` meets its contract.
 use Rattle.opens.proofs.OpenSteps.{cleared, carried, managed, unmanaged, carried_fits, managed_fits}
 use native.Mathlib.Omega.{arith}
-use borrow.Author.Rules.{rules}
 use Rattle.opens.proofs.byte20.Goals as goal
 
 pub returns-then-not-is_participating : goal.returns-then-not-is_participating

@@ -1,7 +1,6 @@
 -- `opens::open_refusal` meets its contract.
 use Rattle.tables.proofs.RefusalLaws.{rows}
 use Rattle.tables.proofs.ArrivalLaws.{both_sized, arrival_front, arrival_back}
-use borrow.Author.Rules.{rules}
 use Rattle.opens.proofs.open_refusal.Goals as goal
 
 pub returns-then-no-ne0 : goal.returns-then-no-ne0

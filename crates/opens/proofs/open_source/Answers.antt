@@ -1,6 +1,5 @@
 -- `opens::open_source` meets its contract.
 use Rattle.opens.proofs.OpenSteps.{source_carried, source_own}
-use borrow.Author.Rules.{rules}
 use Rattle.opens.proofs.open_source.Goals as goal
 
 pub returns-then-not-is_participating : goal.returns-then-not-is_participating

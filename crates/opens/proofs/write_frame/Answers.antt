@@ -2,7 +2,6 @@
 use lib.ListN.{length-set}
 use Rattle.opens.proofs.OpenSteps.{write_end}
 use native.Mathlib.Omega.{arith}
-use borrow.Author.Rules.{rules}
 use Rattle.opens.proofs.write_frame.Goals as goal
 
 pub shape_of-buffer : goal.shape_of-buffer

@@ -1,6 +1,5 @@
 -- `permit::byte_at` meets its contract.
 use native.Mathlib.Omega.{arith}
-use borrow.Author.Rules.{rules}
 use Rattle.permit.specs.Permission.{place}
 use Rattle.permit.proofs.byte_at.Goals as goal
 

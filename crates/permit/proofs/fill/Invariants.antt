@@ -1,9 +1,6 @@
 -- `permit::fill` meets its contract: the bytes below `at` are written.
 use Prim.Native.Nat.{◌-◌, ◌≤◌}
-use native.Mathlib.Omega.{arith}
-use borrow.Author.Rules.{rules}
 use Rattle.permit.specs.Start.{Between}
-use Rattle.permit.proofs.StartLaws.{between_start, fill_again, fill_done}
 use Rattle.permit.proofs.fill.Given as goal
 
 abbrev pub invariant-loop-at : goal.invariant-loop-at

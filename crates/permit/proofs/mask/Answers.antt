@@ -1,5 +1,4 @@
 -- `permit::mask` meets its contract: a one, shifted to the group's bit.
-use borrow.Author.Rules.{rules}
 use Rattle.permit.proofs.BitOps.{one_shifted}
 use Rattle.permit.proofs.mask.Goals as goal
 

@@ -1,5 +1,4 @@
 -- `permit::permissions_sized` meets its contract.
-use borrow.Author.Rules.{rules}
 use Rattle.permit.proofs.permissions_sized.Goals as goal
 
 pub returns : goal.returns

@@ -1,6 +1,4 @@
 -- `permit::permitted` meets its contract.
-use native.Mathlib.Omega.{arith}
-use borrow.Author.Rules.{rules}
 use Rattle.permit.proofs.ReachLaws.{reach_in, reach_row, reach_group}
 use Rattle.permit.proofs.permitted.Goals as goal
 

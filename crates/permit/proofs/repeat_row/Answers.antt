@@ -1,10 +1,5 @@
 -- `permit::repeat_row` meets its contract: the rows below `at` are row 0.
-use Prim.Native.Nat.{◌-◌}
-use lib.ListN.{length}
 use native.Mathlib.Omega.{arith}
-use borrow.Author.Rules.{rules}
-use Rattle.permit.specs.Permission.{table_size}
-use Rattle.permit.specs.Start.{Between, row_again}
 use Rattle.permit.proofs.Laws.{two-rows}
 use Rattle.permit.proofs.StartLaws.{between_start, repeat_again, repeat_done}
 use Rattle.permit.proofs.repeat_row.Goals as goal

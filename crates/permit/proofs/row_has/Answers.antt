@@ -1,5 +1,4 @@
 -- `permit::row_has` meets its contract: the byte is the group's, and the shift picks its bit.
-use borrow.Author.Rules.{rules}
 use Rattle.wire.specs.Bits.{bit}
 use Rattle.permit.specs.Permission.{P}
 use Rattle.permit.proofs.row_has.Goals as goal

@@ -1,6 +1,5 @@
 -- `permit::start_table` meets its contract: row 0, every row as row 0, row 1.
 use native.Mathlib.Omega.{arith}
-use borrow.Author.Rules.{rules}
 use lib.ListN.{length-set}
 use Rattle.permit.proofs.Laws.{two-rows}
 use Rattle.permit.proofs.StartLaws.{steps_sized, start_made}

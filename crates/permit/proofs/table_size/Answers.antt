@@ -1,6 +1,5 @@
 -- `permit::table_size` meets its contract.
 use native.Mathlib.Omega.{arith}
-use borrow.Author.Rules.{rules}
 use Rattle.permit.proofs.Laws.{size_small}
 use Rattle.permit.proofs.table_size.Goals as goal
 

@@ -1,5 +1,4 @@
 -- `permit::write_both` meets its contract.
-use borrow.Author.Rules.{rules}
 use Rattle.permit.specs.Permission.{set_both}
 use Rattle.permit.proofs.write_both.Goals as goal
 

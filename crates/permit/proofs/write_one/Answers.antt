@@ -1,5 +1,4 @@
 -- `permit::write_one` meets its contract.
-use borrow.Author.Rules.{rules}
 use Rattle.permit.proofs.Laws.{set_masked}
 use Rattle.permit.proofs.write_one.Goals as goal
 

@@ -1,8 +1,5 @@
 -- `phy_zone::all_sound` meets its contract: the descriptors passed are sound.
-use Prim.Native.Nat.{◌-◌}
-use Rattle.phy_zone.proofs.PhyZoneLaws.{Judged, judged_start, judged_off, judged_again, judged_end}
-use native.Mathlib.Omega.{arith}
-use borrow.Author.Rules.{rules}
+use Rattle.phy_zone.proofs.PhyZoneLaws.{judged_start, judged_off, judged_again, judged_end}
 use Rattle.phy_zone.proofs.all_sound.Goals as goal
 
 pub loop-judged-init : goal.loop-judged-init

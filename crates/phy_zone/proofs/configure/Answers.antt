@@ -1,8 +1,6 @@
 -- `phy_zone::configure` meets its contract: what is left of the descriptors, done to the table as it is, is all of them, done to the table handed in.
-use Prim.Native.Nat.{◌-◌}
-use Rattle.phy_zone.proofs.PhyZoneLaws.{Written, written_start, written_again, written_end}
+use Rattle.phy_zone.proofs.PhyZoneLaws.{written_start, written_again, written_end}
 use native.Mathlib.Omega.{arith}
-use borrow.Author.Rules.{rules}
 use Rattle.phy_zone.proofs.configure.Goals as goal
 
 pub loop-written-init : goal.loop-written-init

@@ -2,7 +2,6 @@
 use Rattle.requests.proofs.RequestLaws.{leaves_down}
 use Rattle.phy_zone.specs.PhyZone.{phy_zone_reply}
 use Rattle.phy_zone.proofs.PhyZoneLaws.{accepted_fits, configure_done}
-use borrow.Author.Rules.{rules}
 use Rattle.phy_zone.proofs.configure_phy_zone.Goals as goal
 
 pub returns-then-result-ne0 : goal.returns-then-result-ne0

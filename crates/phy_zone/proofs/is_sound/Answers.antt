@@ -1,6 +1,5 @@
 -- `phy_zone::is_sound` meets its contract.
 use Rattle.phy_zone.proofs.PhyZoneLaws.{soundness}
-use borrow.Author.Rules.{rules}
 use Rattle.phy_zone.proofs.is_sound.Goals as goal
 
 pub returns-then-width-b1 : goal.returns-then-width-b1

@@ -1,7 +1,6 @@
 -- `phy_zone::phy_zone_result` meets its contract.
 use Rattle.tables.proofs.RefusalLaws.{rows}
 use native.Mathlib.Omega.{arith}
-use borrow.Author.Rules.{rules}
 use Rattle.phy_zone.proofs.phy_zone_result.Goals as goal
 
 pub returns-then-not-has_right : goal.returns-then-not-has_right

@@ -1,6 +1,5 @@
 -- `requests::smp_source` meets its contract.
 use Rattle.requests.proofs.RequestLaws.{source_carried, source_own}
-use borrow.Author.Rules.{rules}
 use Rattle.requests.proofs.smp_source.Goals as goal
 
 pub returns-then-is_participating : goal.returns-then-is_participating

@@ -1,6 +1,5 @@
 -- `requests::source_reaches` meets its contract.
 use Rattle.requests.proofs.RequestLaws.{reaches_none, reaches-group}
-use borrow.Author.Rules.{rules}
 use Rattle.requests.proofs.source_reaches.Goals as goal
 
 pub returns-in_default : goal.returns-in_default

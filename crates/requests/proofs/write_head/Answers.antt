@@ -2,7 +2,6 @@
 use lib.ListN.{length-set}
 use Rattle.requests.proofs.RequestLaws.{head_set}
 use native.Mathlib.Omega.{arith}
-use borrow.Author.Rules.{rules}
 use Rattle.requests.proofs.write_head.Goals as goal
 
 pub bounds-response-1 : goal.bounds-response-1

@@ -1,6 +1,5 @@
 -- `searches::is_usable` meets its contract.
 use Rattle.searches.proofs.SearchLaws.{unusable, usable-ready}
-use borrow.Author.Rules.{rules}
 use Rattle.searches.proofs.is_usable.Goals as goal
 
 pub returns-then-p-phys : goal.returns-then-p-phys

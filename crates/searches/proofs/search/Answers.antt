@@ -1,6 +1,5 @@
 -- `searches::search` meets its contract.
 use Rattle.searches.proofs.SearchLaws.{search_zero, search-first, search_second}
-use borrow.Author.Rules.{rules}
 use Rattle.searches.proofs.search.Goals as goal
 
 pub returns-then-zero_address : goal.returns-then-zero_address

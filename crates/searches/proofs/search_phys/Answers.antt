@@ -1,9 +1,7 @@
 -- `searches::search_phys` meets its contract.
-use mathlib.Core.Path.{◌≡◌, refl, ap}
+use mathlib.Core.Path.{refl, ap}
 use mathlib.Core.Bool.{not}
-use Prim.Native.Nat.{◌-◌}
-use Rattle.searches.proofs.SearchLaws.{Agree, agree_start, agree_again, PhysLeft, phys_start, phys_other, phys_down, phys_here, phys_none}
-use native.Mathlib.Omega.{arith}
+use Rattle.searches.proofs.SearchLaws.{agree_start, agree_again, phys_start, phys_other, phys_down, phys_here, phys_none}
 use Rattle.searches.proofs.search_phys.Goals as goal
 
 pub search-init : goal.search-init

@@ -1,8 +1,7 @@
 -- `searches::search_phys` meets its contract.
-use mathlib.Core.Path.{◌≡◌, refl}
+use mathlib.Core.Path.{◌≡◌}
 use Prim.Native.Nat.{◌-◌}
-use Rattle.searches.proofs.SearchLaws.{Agree, agree_start, agree_again, PhysLeft, phys_start, phys_other, phys_down, phys_here, phys_none}
-use native.Mathlib.Omega.{arith}
+use Rattle.searches.proofs.SearchLaws.{Agree, PhysLeft}
 use Rattle.searches.proofs.search_phys.Given as goal
 
 abbrev pub invariant-bytes : goal.invariant-bytes

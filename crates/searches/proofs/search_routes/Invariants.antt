@@ -1,9 +1,7 @@
 -- `searches::search_routes` meets its contract.
-use mathlib.Core.Path.{◌≡◌, refl}
+use mathlib.Core.Path.{◌≡◌}
 use Prim.Native.Nat.{◌-◌}
-use Rattle.searches.proofs.SearchLaws.{Agree, agree_start, agree_again, RoutesLeft, routes_start, routes_other, routes_down, routes_skipped, routes_here, routes_none}
-use native.Mathlib.Omega.{arith}
-use borrow.Author.Rules.{rules}
+use Rattle.searches.proofs.SearchLaws.{Agree, RoutesLeft}
 use Rattle.searches.proofs.search_routes.Given as goal
 
 abbrev pub invariant-bytes : goal.invariant-bytes

@@ -1,6 +1,5 @@
 -- `searches::zero_address` meets its contract.
-use Rattle.searches.proofs.SearchLaws.{Zeros, zeros-start, zeros_again, zeros_not, zeros_end}
-use native.Mathlib.Omega.{arith}
+use Rattle.searches.proofs.SearchLaws.{zeros-start, zeros_again, zeros_not, zeros_end}
 use Rattle.searches.proofs.zero_address.Goals as goal
 
 pub loop-k-init : goal.loop-k-init

@@ -1,6 +1,5 @@
 -- `searches::zero_address` meets its contract.
-use Rattle.searches.proofs.SearchLaws.{Zeros, zeros-start, zeros_again, zeros_not, zeros_end}
-use native.Mathlib.Omega.{arith}
+use Rattle.searches.proofs.SearchLaws.{Zeros}
 use Rattle.searches.proofs.zero_address.Given as goal
 
 abbrev pub invariant-loop-k : goal.invariant-loop-k

@@ -1,6 +1,5 @@
 -- `sheet_lines::any_line_at` meets its contract.
 use Rattle.sheet_lines.proofs.LineLaws.{line_none, line_none_2, line_none_3, line_read}
-use borrow.Author.Rules.{rules}
 use Rattle.sheet_lines.proofs.any_line_at.Goals as goal
 
 pub returns-in_default : goal.returns-in_default

@@ -1,6 +1,5 @@
 -- `sheet_lines::end_at` meets its contract.
 use Rattle.sheet_lines.proofs.LineLaws.{end_out, end_lf, end_other, end_cr_out, end_cr_other, end_crlf}
-use borrow.Author.Rules.{rules}
 use Rattle.sheet_lines.proofs.end_at.Goals as goal
 
 pub returns-then-sheet-at : goal.returns-then-sheet-at

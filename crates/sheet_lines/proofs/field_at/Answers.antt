@@ -1,6 +1,5 @@
 -- `sheet_lines::field_at` meets its contract.
 use Rattle.sheet_lines.proofs.LineLaws.{field_none, field_out, field_other, field_read}
-use borrow.Author.Rules.{rules}
 use Rattle.sheet_lines.proofs.field_at.Goals as goal
 
 pub returns-in_default : goal.returns-in_default

@@ -1,9 +1,5 @@
 -- `sheet_lines::figures_at` meets its contract.
-use Prim.Native.Nat.{◌-◌}
-use borrow.Author.Rules.{rules}
-use lib.ListN.{length}
-use Rattle.sheet_lines.proofs.LineLaws.{Scanning, scan_start, scan_value, figured, scan_again, scan_stop, scan_out}
-use native.Mathlib.Omega.{arith}
+use Rattle.sheet_lines.proofs.LineLaws.{scan_start, scan_value, figured, scan_again, scan_stop, scan_out}
 use Rattle.sheet_lines.proofs.figures_at.Goals as goal
 
 pub loop-i-init : goal.loop-i-init

@@ -1,9 +1,7 @@
 -- `sheet_lines::figures_at` meets its contract.
 use Prim.Native.Nat.{◌-◌}
-use borrow.Author.Rules.{rules}
 use lib.ListN.{length}
-use Rattle.sheet_lines.proofs.LineLaws.{Scanning, scan_start, scan_value, figured, scan_again, scan_stop, scan_out}
-use native.Mathlib.Omega.{arith}
+use Rattle.sheet_lines.proofs.LineLaws.{Scanning}
 use Rattle.sheet_lines.proofs.figures_at.Given as goal
 
 abbrev pub invariant-loop-i : goal.invariant-loop-i

@@ -1,6 +1,5 @@
 -- `sheet_lines::line_at` meets its contract.
 use Rattle.sheet_lines.proofs.LineLaws.{line_out, room_second, room_third, line_short}
-use borrow.Author.Rules.{rules}
 use Rattle.sheet_lines.proofs.line_at.Goals as goal
 
 pub returns-then-sheet-at : goal.returns-then-sheet-at

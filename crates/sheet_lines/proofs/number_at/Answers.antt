@@ -1,6 +1,5 @@
 -- `sheet_lines::number_at` meets its contract.
 use Rattle.sheet_lines.proofs.LineLaws.{figured, number_out, number_none, number_zero, number_more}
-use borrow.Author.Rules.{rules}
 use Rattle.sheet_lines.proofs.number_at.Goals as goal
 
 pub returns-then-sheet-at : goal.returns-then-sheet-at

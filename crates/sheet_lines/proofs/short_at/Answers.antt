@@ -1,7 +1,6 @@
 -- `sheet_lines::short_at` meets its contract.
 use Rattle.sheet_lines.proofs.LineLaws.{figured, short_one, short_two, short_three}
 use native.Mathlib.Omega.{arith}
-use borrow.Author.Rules.{rules}
 use Rattle.sheet_lines.proofs.short_at.Goals as goal
 
 pub figure_value-one-requires : goal.figure_value-one-requires

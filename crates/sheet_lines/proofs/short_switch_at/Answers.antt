@@ -1,6 +1,5 @@
 -- `sheet_lines::short_switch_at` meets its contract.
 use Rattle.sheet_lines.proofs.LineLaws.{short_lf, short_crlf}
-use borrow.Author.Rules.{rules}
 use Rattle.sheet_lines.proofs.short_switch_at.Goals as goal
 
 pub returns-then-sheet-after-eq-LF : goal.returns-then-sheet-after-eq-LF

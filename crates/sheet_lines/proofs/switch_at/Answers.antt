@@ -1,6 +1,5 @@
 -- `sheet_lines::switch_at` meets its contract.
 use Rattle.sheet_lines.proofs.LineLaws.{switch_out, switched_0, switched_1, switch_other}
-use borrow.Author.Rules.{rules}
 use Rattle.sheet_lines.proofs.switch_at.Goals as goal
 
 pub returns-then-sheet-at : goal.returns-then-sheet-at

@@ -1,9 +1,5 @@
 -- `shown_rows::own_rows` meets its contract: the first k rows are shown.
-use Prim.Native.Nat.{◌+◌, ◌-◌, ◌*◌, ◌≤◌}
 use native.Mathlib.Omega.{arith}
-use borrow.Author.Rules.{rules}
-use Rattle.permit.specs.Start.{Between}
-use Rattle.shown_rows.specs.Inner.{shown}
 use Rattle.permit.proofs.Laws.{Bytes}
 use Rattle.permit.proofs.StartLaws.{between_start, between_done}
 use Rattle.shown_rows.proofs.ShownLaws.{own_again}

@@ -1,12 +1,7 @@
 -- `shown_rows::own_rows` meets its contract: the first k rows are shown.
 use Prim.Native.Nat.{◌+◌, ◌-◌, ◌*◌, ◌≤◌}
-use native.Mathlib.Omega.{arith}
-use borrow.Author.Rules.{rules}
 use Rattle.permit.specs.Start.{Between}
 use Rattle.shown_rows.specs.Inner.{shown}
-use Rattle.permit.proofs.Laws.{Bytes}
-use Rattle.permit.proofs.StartLaws.{between_start, between_done}
-use Rattle.shown_rows.proofs.ShownLaws.{own_again}
 use Rattle.shown_rows.proofs.own_rows.Given as goal
 
 abbrev pub invariant-loop-k : goal.invariant-loop-k

@@ -1,6 +1,5 @@
 -- `shown_rows::report_rows` meets its contract.
 use native.Mathlib.Omega.{arith}
-use borrow.Author.Rules.{rules}
 use Rattle.permit.proofs.Laws.{Bytes}
 use Rattle.shown_rows.proofs.ShownLaws.{full, report_copied}
 use Rattle.shown_rows.proofs.report_rows.Goals as goal

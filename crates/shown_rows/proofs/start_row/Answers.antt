@@ -1,5 +1,4 @@
 -- `shown_rows::start_row` meets its contract.
-use borrow.Author.Rules.{rules}
 use Rattle.shown_rows.proofs.ShownLaws.{row_filled, row_ended}
 use Rattle.shown_rows.proofs.start_row.Goals as goal
 

@@ -1,11 +1,7 @@
 -- `shown_rows::start_rows` meets its contract: the first k rows are start-up's.
 use Prim.Native.Nat.{◌+◌, ◌-◌, ◌*◌, ◌≤◌}
-use native.Mathlib.Omega.{arith}
-use borrow.Author.Rules.{rules}
 use Rattle.permit.specs.Start.{Between}
 use Rattle.shown_rows.specs.Inner.{start_rows}
-use Rattle.permit.proofs.StartLaws.{between_start, between_done}
-use Rattle.shown_rows.proofs.ShownLaws.{rows_again}
 use Rattle.shown_rows.proofs.start_rows.Given as goal
 
 abbrev pub invariant-loop-k : goal.invariant-loop-k

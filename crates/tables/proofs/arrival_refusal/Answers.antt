@@ -2,7 +2,6 @@
 use Rattle.tables.specs.Arrival.{arrival_checks}
 use Rattle.tables.proofs.RefusalLaws.{rows}
 use Rattle.tables.proofs.ArrivalLaws.{unlike-holds, unlike_fails}
-use borrow.Author.Rules.{rules}
 use Rattle.tables.proofs.arrival_refusal.Goals as goal
 
 pub returns-then-not-phys_sized : goal.returns-then-not-phys_sized

@@ -1,6 +1,5 @@
 -- `tables::is_participating` meets its contract.
 use Rattle.tables.proofs.PhyLaws.{byte0}
-use borrow.Author.Rules.{rules}
 use Rattle.tables.proofs.is_participating.Goals as goal
 
 pub returns : goal.returns

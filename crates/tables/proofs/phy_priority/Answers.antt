@@ -1,6 +1,5 @@
 -- `tables::phy_priority` meets its contract.
 use Rattle.tables.proofs.PhyLaws.{byte0}
-use borrow.Author.Rules.{rules}
 use Rattle.tables.proofs.phy_priority.Goals as goal
 
 pub returns : goal.returns

@@ -1,7 +1,6 @@
 -- `tables::phys_sized` meets its contract.
 use mathlib.Core.Path.{refl}
 use Rattle.tables.specs.Phys.{phys_sized}
-use borrow.Author.Rules.{rules}
 use Rattle.tables.proofs.phys_sized.Goals as goal
 
 pub returns : goal.returns

@@ -1,6 +1,5 @@
 -- `tables::ready_at` meets its contract.
 use Rattle.tables.proofs.PhyLaws.{ready_out}
-use borrow.Author.Rules.{rules}
 use Rattle.tables.proofs.ready_at.Goals as goal
 
 pub returns-then-phys-i : goal.returns-then-phys-i

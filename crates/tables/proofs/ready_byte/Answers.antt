@@ -1,10 +1,6 @@
 -- `tables::ready_byte` meets its contract.
-use Prim.Native.Nat.{◌-◌, ◌*◌}
 use Rattle.wire.specs.PhySet.{set_byte}
-use Rattle.wire.proofs.Sets.{Down, down_start, down_doubles, down_fits, down_again, down_end}
-use Rattle.tables.specs.Phys.{ready}
-use native.Mathlib.Omega.{arith}
-use borrow.Author.Rules.{rules}
+use Rattle.wire.proofs.Sets.{down_start, down_doubles, down_fits, down_again, down_end}
 use Rattle.tables.proofs.ready_byte.Goals as goal
 
 pub loop-j-init : goal.loop-j-init

@@ -1,10 +1,7 @@
 -- `tables::ready_byte` meets its contract.
-use Prim.Native.Nat.{◌-◌, ◌*◌}
-use Rattle.wire.specs.PhySet.{set_byte}
-use Rattle.wire.proofs.Sets.{Down, down_start, down_doubles, down_fits, down_again, down_end}
+use Prim.Native.Nat.{◌*◌}
+use Rattle.wire.proofs.Sets.{Down}
 use Rattle.tables.specs.Phys.{ready}
-use native.Mathlib.Omega.{arith}
-use borrow.Author.Rules.{rules}
 use Rattle.tables.proofs.ready_byte.Given as goal
 
 abbrev pub invariant-loop-j : goal.invariant-loop-j

@@ -1,6 +1,5 @@
 -- `tables::same_port` meets its contract.
 use Rattle.tables.proofs.PortLaws.{port_same, port_other}
-use borrow.Author.Rules.{rules}
 use Rattle.tables.proofs.same_port.Goals as goal
 
 pub returns-then-phy-other : goal.returns-then-phy-other

@@ -1,6 +1,5 @@
 -- `tables::write_empty_set` meets its contract.
 use Rattle.tables.proofs.PhyLaws.{empty_cleared}
-use borrow.Author.Rules.{rules}
 use Rattle.tables.proofs.write_empty_set.Goals as goal
 
 pub returns : goal.returns

@@ -1,10 +1,7 @@
 -- `tables::write_ready_set` meets its contract.
-use Prim.Native.Nat.{◌-◌}
-use Rattle.wire.specs.PhySet.{set_byte, set_of}
-use Rattle.wire.proofs.Loops.{Filled, fill_start, fill_again, fill_end}
-use Rattle.tables.specs.Phys.{ready, ready_set}
-use native.Mathlib.Omega.{arith}
-use borrow.Author.Rules.{rules}
+use Rattle.wire.specs.PhySet.{set_of}
+use Rattle.wire.proofs.Loops.{fill_start, fill_again, fill_end}
+use Rattle.tables.specs.Phys.{ready_set}
 use Rattle.tables.proofs.write_ready_set.Goals as goal
 
 pub loop-k-init : goal.loop-k-init

@@ -1,10 +1,8 @@
 -- `tables::write_ready_set` meets its contract.
 use Prim.Native.Nat.{◌-◌}
-use Rattle.wire.specs.PhySet.{set_byte, set_of}
-use Rattle.wire.proofs.Loops.{Filled, fill_start, fill_again, fill_end}
-use Rattle.tables.specs.Phys.{ready, ready_set}
-use native.Mathlib.Omega.{arith}
-use borrow.Author.Rules.{rules}
+use Rattle.wire.specs.PhySet.{set_byte}
+use Rattle.wire.proofs.Loops.{Filled}
+use Rattle.tables.specs.Phys.{ready}
 use Rattle.tables.proofs.write_ready_set.Given as goal
 
 abbrev pub invariant-loop-k : goal.invariant-loop-k

@@ -1,6 +1,5 @@
 -- `told_set::is_permitted` meets its contract.
 use Rattle.told_set.proofs.ToldLaws.{permitted_off, permitted_on}
-use borrow.Author.Rules.{rules}
 use Rattle.told_set.proofs.is_permitted.Goals as goal
 
 pub returns-then-not-permitted : goal.returns-then-not-permitted

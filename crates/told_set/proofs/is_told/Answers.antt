@@ -1,6 +1,5 @@
 -- `told_set::is_told` meets its contract.
 use Rattle.told_set.proofs.Chains.{judged_barred, judged_zero, judged_own, chain_there, judged_chain}
-use borrow.Author.Rules.{rules}
 use Rattle.told_set.proofs.is_told.Goals as goal
 
 pub returns-then-not-is_permitted : goal.returns-then-not-is_permitted

@@ -1,7 +1,5 @@
 -- `told_set::met` meets its contract.
-use Prim.Native.Nat.{◌-◌}
-use Rattle.told_set.proofs.Chains.{Along, along_start, along_again, along_less, along_met, along_end}
-use native.Mathlib.Omega.{arith}
+use Rattle.told_set.proofs.Chains.{along_start, along_again, along_less, along_met, along_end}
 use Rattle.told_set.proofs.met.Goals as goal
 
 pub loop-k-init : goal.loop-k-init

@@ -2,7 +2,6 @@
 use mathlib.Core.Path.{refl}
 use native.Mathlib.Omega.{arith}
 use Rattle.told_set.specs.Inner.{slot_of}
-use borrow.Author.Rules.{rules}
 use Rattle.told_set.proofs.slot_of.Goals as goal
 
 pub returns : goal.returns

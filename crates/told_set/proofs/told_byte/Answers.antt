@@ -1,10 +1,8 @@
 -- `told_set::told_byte` meets its contract.
-use mathlib.Core.Logic.{⊎_elim}
-use Prim.Native.Nat.{◌-◌}
-use Rattle.told_set.proofs.Chains.{Rising, rise_start, rise_there, rise_room, rise_twice, rise_on, rise_off, rise_fits, rise_end}
-use native.Mathlib.Omega.{arith}
+use Rattle.told_set.proofs.Chains.{rise_start, rise_there, rise_room, rise_twice, rise_on, rise_off, rise_fits, rise_end}
 use borrow.Author.Rules.{rules}
 use Rattle.told_set.proofs.told_byte.Goals as goal
+use Rattle.told_set.proofs.told_byte.Goals.{then-told, else-told}
 
 pub loop-i-init : goal.loop-i-init
 loop-i-init c = search rise_start
@@ -19,7 +17,8 @@ pub overflow_add-bit : goal.overflow_add-bit
 overflow_add-bit c = search rise_twice
 
 pub loop-i-preserved : goal.loop-i-preserved
-loop-i-preserved c = ⊎_elim (λ w. search rise_on) (λ w. search rise_off) c.if-told.branch
+loop-i-preserved c =
+    elim c.if-told.branch [ then-told w ↦ search rise_on | else-told w ↦ search rise_off ]
 
 pub overflow_cast-result : goal.overflow_cast-result
 overflow_cast-result c = search rise_fits

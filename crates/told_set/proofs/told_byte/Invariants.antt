@@ -1,9 +1,6 @@
 -- `told_set::told_byte` meets its contract.
-use mathlib.Core.Logic.{⊎_elim}
 use Prim.Native.Nat.{◌-◌}
-use Rattle.told_set.proofs.Chains.{Rising, rise_start, rise_there, rise_room, rise_twice, rise_on, rise_off, rise_fits, rise_end}
-use native.Mathlib.Omega.{arith}
-use borrow.Author.Rules.{rules}
+use Rattle.told_set.proofs.Chains.{Rising}
 use Rattle.told_set.proofs.told_byte.Given as goal
 
 abbrev pub invariant-loop-i : goal.invariant-loop-i

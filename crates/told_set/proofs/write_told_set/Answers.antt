@@ -1,6 +1,5 @@
 -- `told_set::write_told_set` meets its contract.
-use Prim.Native.Nat.{◌-◌}
-use Rattle.told_set.proofs.Chains.{Telling, tell_start, tell_room, tell_again, tell_end}
+use Rattle.told_set.proofs.Chains.{tell_start, tell_room, tell_again, tell_end}
 use native.Mathlib.Omega.{arith}
 use borrow.Author.Rules.{rules}
 use Rattle.told_set.proofs.write_told_set.Goals as goal

@@ -1,8 +1,6 @@
 -- `told_set::write_told_set` meets its contract.
 use Prim.Native.Nat.{◌-◌}
-use Rattle.told_set.proofs.Chains.{Telling, tell_start, tell_room, tell_again, tell_end}
-use native.Mathlib.Omega.{arith}
-use borrow.Author.Rules.{rules}
+use Rattle.told_set.proofs.Chains.{Telling}
 use Rattle.told_set.proofs.write_told_set.Given as goal
 
 abbrev pub invariant-loop-k : goal.invariant-loop-k

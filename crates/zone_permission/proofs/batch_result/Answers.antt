@@ -1,7 +1,6 @@
 -- `zone_permission::batch_result` meets its contract.
 use Rattle.tables.proofs.RefusalLaws.{rows, held_above, held-at_most}
 use native.Mathlib.Omega.{arith}
-use borrow.Author.Rules.{rules}
 use Rattle.zone_permission.proofs.batch_result.Goals as goal
 
 pub overflow_cast-count : goal.overflow_cast-count

@@ -1,7 +1,6 @@
 -- `zone_permission::obey` meets its contract.
 use native.Mathlib.Omega.{arith}
-use Rattle.zone_permission.proofs.PermissionLaws.{Rows, single-named, batch-named, obeys_single, obeys_batch}
-use borrow.Author.Rules.{rules}
+use Rattle.zone_permission.proofs.PermissionLaws.{single-named, batch-named, obeys_single, obeys_batch}
 use Rattle.zone_permission.proofs.obey.Goals as goal
 
 pub obey_single-requires : goal.obey_single-requires

@@ -1,6 +1,5 @@
 -- `zone_permission::operation_result` meets its contract.
 use Rattle.zone_permission.proofs.PermissionLaws.{picks_single, picks_batch, picks_none}
-use borrow.Author.Rules.{rules}
 use Rattle.zone_permission.proofs.operation_result.Goals as goal
 
 pub returns-in-8 : goal.returns-in-8

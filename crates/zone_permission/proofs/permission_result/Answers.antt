@@ -2,7 +2,6 @@
 use native.Mathlib.Omega.{arith}
 use Rattle.tables.proofs.RefusalLaws.{rows}
 use Rattle.zone_permission.proofs.PermissionLaws.{then_operation}
-use borrow.Author.Rules.{rules}
 use Rattle.zone_permission.proofs.permission_result.Goals as goal
 
 pub returns-then-not-has_right : goal.returns-then-not-has_right

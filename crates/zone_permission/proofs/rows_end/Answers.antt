@@ -1,6 +1,5 @@
 -- `zone_permission::rows_end` meets its contract.
 use Rattle.zone_permission.proofs.PermissionLaws.{ends_none, ends_some}
-use borrow.Author.Rules.{rules}
 use Rattle.zone_permission.proofs.rows_end.Goals as goal
 
 pub returns-then-count-eq0 : goal.returns-then-count-eq0

@@ -1,6 +1,5 @@
 -- `zone_permission::single_result` meets its contract.
 use Rattle.tables.proofs.RefusalLaws.{rows}
-use borrow.Author.Rules.{rules}
 use Rattle.zone_permission.proofs.single_result.Goals as goal
 
 pub returns-then-request-ne12 : goal.returns-then-request-ne12

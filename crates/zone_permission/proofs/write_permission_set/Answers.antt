@@ -1,6 +1,5 @@
 -- `zone_permission::write_permission_set` meets its contract.
 use Rattle.zone_permission.proofs.PermissionLaws.{sets_ready, sets_empty}
-use borrow.Author.Rules.{rules}
 use Rattle.zone_permission.proofs.write_permission_set.Goals as goal
 
 pub returns-then-request-eq1 : goal.returns-then-request-eq1

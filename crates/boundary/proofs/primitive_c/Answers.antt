@@ -1,0 +1,6 @@
+-- `boundary::primitive_c` meets its contract.
+use Rattle.boundary.proofs.CLaws.{primitive_c}
+use Rattle.boundary.proofs.primitive_c.Goals as goal
+
+pub returns : goal.returns
+returns c = search primitive_c

@@ -2,9 +2,11 @@
 // takes, so that the first bytes of a longer one are not taken for a whole input.
 #![tactic(auto)]
 
-ghost use Rattle.std.specs.Prelude.{◌≤◌, length};
+ghost use Rattle.std.specs.Prelude.{◌<◌, ◌≤◌, length, take, [], ◌∷◌, ◌++◌, IsTrue, OnOk, codes};
+ghost use Rattle.std.specs.Io.KnownBytes.{Appends, Consumes, IsAtEnd};
 
-use libc::STDIN_FILENO;
+use std::io;
+use std::io::{Read, Write};
 
 // How many bytes were read, and whether the input was read to its end or the array's.
 #[derive(Clone, Copy)]
@@ -14,26 +16,26 @@ pub struct Taken {
 }
 
 // Reads behind what is there, until a read brings nothing. Where one fails, what is there is not the input.
-pub fn take_input(input: &mut [u8]) -> Taken
-    ensures { result.have ≤ length input.new }
+pub fn take_input<R: Read>(reader: &mut R, input: &mut [u8]) -> Taken
+    ensures within { result.have ≤ length input.new }
+    ensures read { Consumes (R.remaining reader.old) (R.remaining reader.new) (take result.have input.new) }
+    ensures end { IsTrue result.whole → result.have < length input.new → IsAtEnd (R.remaining reader.new) }
 {
     let end = input.len();
     let mut have: usize = 0;
     while have < end {
-        let got = libc::read(STDIN_FILENO, &mut input[have..end]);
-        if got < 0 {
-            return Taken { have, whole: false };
+        match reader.read(&mut input[have..]) {
+            Ok(0) => return Taken { have, whole: true },
+            Ok(more) => have += more,
+            Err(_) => return Taken { have, whole: false },
         }
-        let more = io::count(got, &input[have..end]);
-        if more == 0 {
-            return Taken { have, whole: true };
-        }
-        have += more;
     }
     Taken { have, whole: true }
 }
 
-// Says on `fd` that a read failed.
-pub fn say_unreadable(fd: i32) {
-    io::write_all(fd, b"the input cannot be read\n");
+// Says that a read failed.
+pub fn say_unreadable<W: Write>(to: &mut W) -> io::Result<()>
+    ensures { OnOk result (Appends (W.contents to.old) (W.contents to.new) (codes "the input cannot be read" ++ 10 ∷ [])) }
+{
+    to.write_all(b"the input cannot be read\n")
 }

@@ -7,7 +7,11 @@ use native.Mathlib.Numerals.{add-one}
 use native.Mathlib.Nat.{zero-add}
 use native.Mathlib.Omega.{arith}
 use lib.ListN.{length, take, drop, get_or, set, length-set, length-drop}
+use borrow.Rule.Slice.PartMut.{put_mid}
 use lib.Seq.{take-suc, length-take-le, get_or-set_other, get_or-drop}
+use Rattle.std.proofs.lemmas.List.{take_at}
+use Rattle.std.proofs.lemmas.List.Edits.{sets-eq}
+use Rattle.std.proofs.lemmas.Slice.{take-put_mid_below}
 use Rattle.lines.specs.Written.{written}
 use Rattle.lines.proofs.Lines.{written-append}
 
@@ -50,3 +54,14 @@ keep_end window₀ from n window i h r =
     let w = r.within in
     let e : i ≡ n = omega arith in
     r.moved ∙ ap (λ (k : ℕ). written window₀ 0 (take k (drop from window₀))) e
+
+-- n bytes that were moved to the front stand there whatever is read behind them
+pub kept_front : (window₀ window read : List ℕ) (at n k : ℕ) → at + n ≤ length window₀ → window ≡ written window₀ 0 (take n (drop at window₀)) → length window ≡ length window₀
+    → take n (put_mid n k window read) ≡ take n (drop at window₀)
+unfolding written
+kept_front window₀ window read at n k h e same =
+    let vs = take n (drop at window₀) in
+    let long : n ≤ length (drop at window₀) = simp length-drop (omega arith) in
+    let l : length vs ≡ n = length-take-le n (drop at window₀) long in
+    take-put_mid_below n k window read n (omega arith) (omega arith) ∙ ap (take n) e ∙ ap (take n) (sets-eq vs window₀ 0 (omega arith))
+    ∙ take_at vs (drop (0 + length vs) window₀) n l

@@ -11,7 +11,7 @@ use borrow.Author.Tests.{leb-true, ltb-true, le-leb, lt-leb, eq-eqb, ne_eqb, not
 use lib.Dec.{eqb, ltb, leb}
 use lib.ListN.{length, drop, get_or, drop_of_length-le}
 use lib.Seq.{drop-cons}
-use Rattle.sheet_lines.specs.Line.{comma, is_figure, Field, found, none, figures, number, before_comma, before_lf, before_end, switch, line, bad, line_of}
+use Rattle.sheet_lines.specs.Line.{is_figure, Field, found, none, figures, number, before_comma, before_lf, before_end, switch, line, bad, line_of}
 use Rattle.sheet_lines.specs.Places.{capped, Reads, ReadAs, LineAt}
 use Rattle.sheet_lines.specs.Short.{ShortAs}
 use Rattle.sheet_lines.specs.declared.Read.{Read}

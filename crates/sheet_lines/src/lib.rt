@@ -256,8 +256,7 @@ fn line_at(sheet: &[u8], at: usize) -> LineRead
     LineRead::Line(a, b, v == 1, next)
 }
 
-// A line reader: the sheet, and where the next line starts. The functions over it are thin, and proved by hand; `read_line` serves
-// every other caller.
+// A line reader: the sheet, and where the next line starts. The functions over it are thin; `read_line` serves every other caller.
 #[derive(Clone, Copy)]
 pub struct LineReader<'a> {
     pub sheet: &'a [u8],

@@ -10,13 +10,13 @@ pub returns-then-d-eq44 : goal.returns-then-d-eq44
 returns-then-d-eq44 c = search short_one
 
 pub more-two-requires : goal.more-two-requires
-more-two-requires c = (omega arith, figured _ _ c.is_figure-2.ensures c.if-not-is_figure-2.false)
+more-two-requires c = (omega arith, search figured)
 
 pub returns-then-e-eq44 : goal.returns-then-e-eq44
 returns-then-e-eq44 c = search short_two
 
 pub more-three-requires : goal.more-three-requires
-more-three-requires c = (omega arith, figured _ _ c.is_figure-3.ensures c.if-not-is_figure-3.false)
+more-three-requires c = (omega arith, search figured)
 
 pub returns : goal.returns
 returns c = search short_three

@@ -1,0 +1,16 @@
+-- `file_phys::are_phys_writable` meets its contract.
+use Rattle.wire.proofs.RunLaws.{judged_off, judged_again, judged_end}
+use Rattle.file_phys.proofs.BlockLaws.{phys_start, phy_judged}
+use Rattle.file_phys.proofs.are_phys_writable.Goals as goal
+
+pub loop-i-init : goal.loop-i-init
+loop-i-init c = search phys_start
+
+pub returns-then-not-is_writable : goal.returns-then-not-is_writable
+returns-then-not-is_writable c = search (judged_off, phy_judged)
+
+pub loop-i-preserved : goal.loop-i-preserved
+loop-i-preserved c = search (judged_again, phy_judged)
+
+pub returns : goal.returns
+returns c = search judged_end

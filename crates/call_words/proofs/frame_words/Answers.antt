@@ -2,7 +2,6 @@
 use Rattle.lines.specs.Words.{told_words}
 use Rattle.call_words.specs.Gives.{broadcast_gives}
 use Rattle.call_words.proofs.SaidLaws.{gave}
-use borrow.Author.Rules.{rules}
 use Rattle.call_words.proofs.frame_words.Goals as goal
 
 pub returns : goal.returns

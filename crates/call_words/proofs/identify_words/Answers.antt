@@ -1,7 +1,6 @@
 -- `call_words::identify_words` meets its contract.
 use Rattle.call_words.specs.Gives.{identify_gives}
 use Rattle.call_words.proofs.SaidLaws.{of_payload, gave_link, wrong_length, right-length}
-use borrow.Author.Rules.{rules}
 use Rattle.call_words.proofs.identify_words.Goals as goal
 
 pub returns-then-payload-ne8 : goal.returns-then-payload-ne8

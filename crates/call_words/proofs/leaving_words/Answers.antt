@@ -1,7 +1,6 @@
 -- `call_words::leaving_words` meets its contract.
 use Rattle.call_words.specs.Gives.{leaving_gives}
 use Rattle.call_words.proofs.SaidLaws.{gave_link, wrong_length, right-length}
-use borrow.Author.Rules.{rules}
 use Rattle.call_words.proofs.leaving_words.Goals as goal
 
 pub returns-then-payload-ne0 : goal.returns-then-payload-ne0

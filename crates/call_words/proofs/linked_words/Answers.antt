@@ -3,7 +3,6 @@ use Rattle.links.specs.Links.{linked_as}
 use Rattle.lines.specs.Words.{link_words}
 use Rattle.call_words.proofs.SaidLaws.{said_of}
 use native.Mathlib.Omega.{arith}
-use borrow.Author.Rules.{rules}
 use Rattle.call_words.proofs.linked_words.Goals as goal
 
 pub returns-in-Refused : goal.returns-in-Refused

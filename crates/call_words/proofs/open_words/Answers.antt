@@ -4,7 +4,6 @@ use Rattle.lines.specs.Words.{outcome_words}
 use Rattle.call_words.specs.Gives.{open_gives}
 use Rattle.call_words.proofs.SaidLaws.{said_of, gave}
 use native.Mathlib.Omega.{arith}
-use borrow.Author.Rules.{rules}
 use Rattle.call_words.proofs.open_words.Goals as goal
 
 pub returns-in-Refused : goal.returns-in-Refused

@@ -2,7 +2,6 @@
 use Rattle.lines.specs.Words.{told_words}
 use Rattle.call_words.specs.Gives.{primitive_gives}
 use Rattle.call_words.proofs.SaidLaws.{gave, wrong_length, right-length}
-use borrow.Author.Rules.{rules}
 use Rattle.call_words.proofs.primitive_words.Goals as goal
 
 pub returns-then-payload-ne1 : goal.returns-then-payload-ne1

@@ -4,7 +4,6 @@ use Rattle.lines.specs.Words.{reply_words}
 use Rattle.call_words.specs.Gives.{smp_gives}
 use Rattle.call_words.proofs.SaidLaws.{said_of, gave_smp}
 use native.Mathlib.Omega.{arith}
-use borrow.Author.Rules.{rules}
 use Rattle.call_words.proofs.smp_words.Goals as goal
 
 pub returns-in-Refused : goal.returns-in-Refused

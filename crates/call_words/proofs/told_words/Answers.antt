@@ -3,7 +3,6 @@ use Rattle.broadcasts.specs.Broadcasts.{told_as}
 use Rattle.lines.specs.Words.{told_words}
 use Rattle.call_words.proofs.SaidLaws.{said_of}
 use native.Mathlib.Omega.{arith}
-use borrow.Author.Rules.{rules}
 use Rattle.call_words.proofs.told_words.Goals as goal
 
 pub returns-in-Refused : goal.returns-in-Refused

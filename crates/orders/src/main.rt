@@ -3,17 +3,17 @@
 // whole sheet.
 #![tactic(auto)]
 
-use libc::STDOUT_FILENO;
+use std::io;
+use std::io::Write;
 
-fn main() {
+fn main(rt: HostRuntime) -> io::Result<()> {
     let mut sheet = [0u8; 88012];
     let mut text = [0u8; 88011];
-    let taken = whole_input::take_input(&mut sheet);
+    let taken = whole_input::take_input(&mut rt.stdin(), &mut sheet);
     let have = taken.have;
     if !taken.whole {
-        whole_input::say_unreadable(STDOUT_FILENO);
-        return;
+        return whole_input::say_unreadable(&mut rt.stdout());
     }
     let end = orders_text::orders_text(&sheet[0..have], &mut text);
-    io::write_all(STDOUT_FILENO, &text[0..end]);
+    rt.stdout().write_all(&text[0..end])
 }

@@ -1,8 +1,8 @@
 // The bench program: the bench rack on standard input, a line for each event on standard output.
 #![tactic(auto)]
 
-use libc::STDIN_FILENO;
+use std::io;
 
-fn main() {
-    bench_run::run(STDIN_FILENO);
+fn main(rt: HostRuntime) -> io::Result<()> {
+    bench_run::run(&mut rt.stdin(), &mut rt.stdout())
 }

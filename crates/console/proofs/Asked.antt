@@ -15,7 +15,7 @@ use Rattle.wire.specs.Groups.{is_group}
 use Rattle.wire.specs.Bits.{bit, tab}
 use Rattle.wire.proofs.Loops.{length-tab}
 use Rattle.permit.specs.Permission.{groups, permissions_sized, P, place, reaches, start_byte, start_table}
-use Rattle.permit.specs.Orders.{Order, order, rows_end}
+use Rattle.permit.specs.Orders.{Order, rows_end}
 use Rattle.tables.specs.Refusals.{Check, Test, refuse, holds, first_refusal, Fails}
 use Rattle.tables.specs.Outcome.{outcome}
 use Rattle.tables.specs.Phys.{phy_record, phy_count, phys_sized}

@@ -1,7 +1,6 @@
 -- `rack::start_rack` meets its contract: the constant is the specification's rack.
 use Prim.Native.Nat.{◌-◌}
 use Rattle.rack.proofs.Records.{Stored}
-use Rattle.rack.specs.Rack.{rack}
 use Rattle.rack.proofs.start_rack.Given as goal
 
 abbrev pub invariant-loop-i : goal.invariant-loop-i

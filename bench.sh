@@ -12,19 +12,9 @@ command -v rt >/dev/null || {
 say() { echo "bench.sh: $*" >&2; }
 
 if [ ! -x target/bin/bench ]; then
-    say "building the bench, which proves every crate that it stands on: some four minutes on two free cores. Each is named once it is proved."
-elif [ -n "$(find crates -newer target/bin/bench -print -quit)" ]; then
+    say "building the bench, which proves every crate that it stands on: some ten minutes on two free cores. Each is named once it is checked."
+elif [ -n "$(find crates -newer target/bin/bench -name '*.rt' -print -quit)$(find crates -newer target/bin/bench -name '*.antt' -print -quit)" ]; then
     say "the sources are newer than the bench: what has changed is proved again"
 fi
-log=$(mktemp)
-trap 'rm -f "$log"' EXIT
-# A crate that has not changed is no news.
-if ! rt check bench 2>&1 </dev/null | tee "$log" | sed -u -n '/unchanged since/d; /^rt: .* proved (/p' >&2; then
-    cat "$log" >&2
-    say "rt check bench failed, so the bench is not built; above is what it said"
-    exit 1
-fi
-if grep -q '^rt: .* proved ([0-9]* s)' "$log"; then say "built in $SECONDS s"; fi
-# rt goes by contents: where none has changed, the sources are to be newer only once.
-touch target/bin/bench
-second/bench.sh target/bin/bench
+./build.sh bench </dev/null
+exec second/bench.sh target/bin/bench

@@ -25,25 +25,35 @@ need x86_64-linux-gnu-readelf binutils-x86-64-linux-gnu
 [ "$(uname -m)" = x86_64 ] || packages+=(gcc-x86-64-linux-gnu libc6-dev-amd64-cross)
 tests/install.sh "${packages[@]}"
 
-step 'layout'
-rt fmt --check
-
 step 'the second program by itself'
 cargo test --offline --quiet --manifest-path second/Cargo.toml
 cargo build --offline --quiet --release --manifest-path second/Cargo.toml
 
 step 'proofs, must-fail edits and programs'
 rt ci 2>&1 | tee "$log"
+# An edit whose text no longer stands fails nothing in rt ci; here it does.
+if grep -E '^rt: ok.*, [0-9]+ bad' "$log"; then
+    echo "test.sh: a must-fail edit is bad: mend it" >&2
+    exit 1
+fi
+grep -q '^rt: ok' "$log"
+# What rt ci built is run below.
+mkdir -p target/bin target/staticlib
+for program in crates/*/src/main.rt; do
+    name=$(basename "$(dirname "$(dirname "$program")")")
+    cp "crates/$name/out/$name" "target/bin/$name"
+done
 bench="second/bench.sh target/bin/bench"
 
 step 'what each must-fail edit was refused at'
+python3 tests/try_edits.py "$log" target/must-fail
 python3 tests/edits.py target/must-fail
 
 step 'the three archives for C'
 # archived NAME STACK: the archive of console, shelf or small, what it takes, and how much stack its calls take
 archived() {
     local archive=target/staticlib/lib$1_c.a
-    rt staticlib "$1_c" >/dev/null
+    ./build.sh "$1_c"
     tests/archive.sh "$archive" | tr , '\n' | sed "s/^ */$1: /" | tests/at_most.sh README.md
     second/driver/build.sh "$archive" "target/$1_stack" "$2"
     second/driver/run.sh "target/$1_stack" | tests/at_most.sh README.md

@@ -1,5 +1,5 @@
 #!/usr/bin/env python3
-"""What each must-fail edit was refused at. Reads the first error of every log that rt ci leaves, prints how many there are of each kind, and
+"""What each must-fail edit was refused at. Reads the first error of every log that tests/try_edits.py writes, prints how many there are of each kind, and
 fails where an edit has no log, or was refused only because a proof no longer fits the code's shape: that shows nothing of what the edit gets
 wrong, since a right change of the same shape would be refused as well. A kind that is not listed here fails too: somebody has to look at it.
 An edit may get several functions wrong, each by itself: then every function whose code it changes must be refused at a fact, by an error of its
@@ -34,7 +34,7 @@ def errors(log):
     each note with a place."""
     said = re.findall(r'^(\S+): error: (?:`([^`]*)`: )?(.*(?:\n[ \t].*)*)', log, re.M)
     notes = re.findall(r'^note: (\S+:\d+:\d+): ()(.*)', log, re.M)
-    return [error for error in said if not re.match(r'`[^`]*` was not admitted', error[2])] + notes
+    return [error for error in said if not re.match(r'`[^`]*` was not admitted|\d+ declarations? that depend|this file exports no', error[2])] + notes
 
 
 def heads(source):
@@ -44,7 +44,7 @@ def heads(source):
 
 def in_function(function, crate, place, _):
     """Whether an error is placed in a function: in its proof, or, where the prover makes that itself, in its code. No change makes a line more or less."""
-    found = re.search(r'/(src/\w+\.rt):(\d+):', place)
+    found = re.search(r'(?:^|/)(src/\w+\.rt):(\d+):', place)
     if not found:
         return f'/proofs/{function}/' in place
     source = (crate / found[1]).read_text()
@@ -163,12 +163,12 @@ def can_fail():
         'no_need': '/p: error: `x`: `tie` has no `Need-returns-2`\n',
         'follows': '/p: error: `x`: `close` was not admitted, so\nnote: /src/lib.rt:1:1: it is not proved that it returns\n',
         'follows_shape': '/p: error: `x`: `close` was not admitted, so\n/p: error: `y`: `tie` has no `Need-returns-2`\n',
-        'only_follows': '/p: error: `x`: `close` was not admitted, so\n',
+        'only_follows': '/p: error: 1 declaration that depends on `close`, which was not admitted, was not checked: x\n',
         'other': '/p: error: `x`: something else\n',
         'silent': 'fn a: proved\n',
         'one_of_two': f'{F}`omega`: it fails\n{G}`omega`: it fails\nfn c::f: proved\nfn c::g: not proved\n',
         'both': f'{F}`omega`: it fails\n{G}`close` was not admitted, so\n{G}`omega`: it fails\nfn c::f: not proved\nfn c::g: no proof\n',
-        'both_noted': f'{F}`omega`: it fails\nnote: /x/src/lib.rt:7:1: it is not proved that it returns\nfn c::f: not proved\nfn c::g: no proof\n',
+        'both_noted': f'{F}`omega`: it fails\nnote: src/lib.rt:7:1: it is not proved that it returns\nfn c::f: not proved\nfn c::g: no proof\n',
         'both_later_shape': f'{F}`omega`: it fails\n{F}`tie` has no `Need-2`\n{G}`omega`: it fails\nfn c::f: not proved\nfn c::g: not proved\n',
         'second_follows': f'{F}`omega`: it fails\n{G}`close` was not admitted, so\nfn c::f: not proved\nfn c::g: not proved\n',
         'second_shape': f'{F}`omega`: it fails\n{G}`tie` has no `Need-2`\n{G}`omega`: it fails\nfn c::f: not proved\nfn c::g: not proved\n',
@@ -214,12 +214,13 @@ def can_fail():
         sys.exit(f'edits.py: of the made-up logs these are refused: {named}')
 
 
-can_fail()
-found = list(read(pathlib.Path(__file__).resolve().parent.parent / 'crates', pathlib.Path(sys.argv[1])))
-if '--all' in sys.argv:
-    for row in found:
-        print(' | '.join(row))
-for name, count in collections.Counter(kind for _, kind, _ in found).most_common():
-    print(f'{count} of {len(found)} edits: {name}')
-if not found or bad(found):
-    sys.exit('\n'.join(['edits.py: these edits show nothing:', *bad(found)]))
+if __name__ == '__main__':
+    can_fail()
+    found = list(read(pathlib.Path(__file__).resolve().parent.parent / 'crates', pathlib.Path(sys.argv[1])))
+    if '--all' in sys.argv:
+        for row in found:
+            print(' | '.join(row))
+    for name, count in collections.Counter(kind for _, kind, _ in found).most_common():
+        print(f'{count} of {len(found)} edits: {name}')
+    if not found or bad(found):
+        sys.exit('\n'.join(['edits.py: these edits show nothing:', *bad(found)]))

@@ -1,14 +1,12 @@
 #!/usr/bin/env python3
-"""Runs target/bin/bench (after `rt check bench`) on streams that are too long to store, and on input that comes in pieces: payloads of 65,535
+"""Runs target/bin/bench (after `./build.sh bench`) on streams that are too long to store, and on input that comes in pieces: payloads of 65,535
 bytes, events across the ends of the program's window of 131,072 bytes, an event cut off at each of its bytes, a million events. The expected
 lines follow from document 01: an event of another kind prints K, a primitive of phy 0 (group 1, which reaches all groups) tells the 7 others."""
 import os, pathlib, shutil, subprocess, sys, time
 
 ROOT = pathlib.Path(__file__).resolve().parent.parent
 PROGRAM = sys.argv[1] if len(sys.argv) > 1 else ROOT / 'target/bin/bench'
-KIT = pathlib.Path(os.path.realpath(shutil.which('rt'))).parent.parent / 'on' / os.uname().machine / 'toolchain'
-EMULATOR = KIT / 'bin/qemu-x86_64'
-COMMAND = ([EMULATOR] if EMULATOR.exists() else []) + [KIT / 'lib/ld-linux-x86-64.so.2', '--library-path', KIT / 'lib', PROGRAM]
+COMMAND = [ROOT / 'second/bench.sh', PROGRAM]
 
 
 def event(kind, phy, payload=b''):

@@ -1,5 +1,5 @@
 #!/usr/bin/env python3
-"""Runs target/bin/orders (after `rt check orders`) on sheets that Python's csv writes, and reads with it what comes out. The model is a plain one, the
+"""Runs target/bin/orders (after `./build.sh orders`) on sheets that Python's csv writes, and reads with it what comes out. The model is a plain one, the
 latest value of each pair: what the program writes must be byte for byte what csv writes for the pairs that are on, ascending, and fed in again it must
 give itself back. Then wrong lines of every kind, which must be named by their number and in words, sheets at and over the 88,011 bytes that a sheet may
 have, spoilt sheets against a model of the lines, and input that comes in pieces or cannot be read. Last the way by which docs/PROMISES.md compares what the

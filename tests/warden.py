@@ -1,5 +1,5 @@
 #!/usr/bin/env python3
-"""Runs target/bin/warden (after `rt check warden`) on made-up lines, right and wrong, against a model of the grammar and of document 01's layouts
+"""Runs target/bin/warden (after `./build.sh warden`) on made-up lines, right and wrong, against a model of the grammar and of document 01's layouts
 that shares nothing with the program: each form, every refusal, responses of every function, numbers of any length, lines at and over the
 65,535 bytes that a line may have, and input that comes in pieces. Fails where a run differs.
 
@@ -8,9 +8,7 @@ import os, pathlib, random, re, shutil, subprocess, sys, time
 
 ROOT = pathlib.Path(__file__).resolve().parent.parent
 PROGRAM = sys.argv[1] if len(sys.argv) > 1 else ROOT / 'target/bin/warden'
-KIT = pathlib.Path(os.path.realpath(shutil.which('rt'))).parent.parent / 'on' / os.uname().machine / 'toolchain'
-EMULATOR = KIT / 'bin/qemu-x86_64'
-COMMAND = ([EMULATOR] if EMULATOR.exists() else []) + [KIT / 'lib/ld-linux-x86-64.so.2', '--library-path', KIT / 'lib', PROGRAM]
+COMMAND = [ROOT / 'second/bench.sh', PROGRAM]
 LONGEST = 65535
 
 FORMS = {

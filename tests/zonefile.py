@@ -1,5 +1,5 @@
 #!/usr/bin/env python3
-"""Runs target/bin/zonefile (after `rt check zonefile`) both ways. The model is a plain one, written from document 02, request 08: the pairs that are on,
+"""Runs target/bin/zonefile (after `./build.sh zonefile`) both ways. The model is a plain one, written from document 02, request 08: the pairs that are on,
 two bytes each, ascending, and twelve bytes behind them. Sheets must give the file byte for byte, files the sheet, and each way and back must give what was
 there before, from no pair to all 8,001. Then what is refused, which must be said in its words on standard error, with nothing on standard output: wrong lines,
 every damage of a single bit of a small file, files cut short and made longer, spoilt files, version 2, other words than `save` and `load`, and input that

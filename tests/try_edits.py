@@ -1,0 +1,90 @@
+#!/usr/bin/env python3
+"""Writes what the prover says of each must-fail edit to LOGS/CRATE/EDIT/.log, for tests/edits.py. rt ci tells the first error of an edit in one line, which
+is all that an edit of one function needs. One that gets several functions or promises wrong, or a definition and its code together, is tried here once
+more, by `rt check` in a copy of the repository as rt ci left it, since every error counts.
+
+try_edits.py RT_CI_LOG LOGS"""
+import os, pathlib, re, shutil, subprocess, sys, tempfile
+from concurrent.futures import ThreadPoolExecutor
+from queue import Queue
+
+import edits
+
+ROOT = pathlib.Path(__file__).resolve().parent.parent
+CRATES = ROOT / 'crates'
+
+
+def wants_all(edit):
+    """Whether more than the first error of an edit counts."""
+    text, crate = edit.read_text(), edit.parent.parent
+    folders = edits.parts(text)
+    return {'src', 'specs'} <= folders or len(edits.changed(text, crate)) > 1 or len(edits.promises(text, crate)) > 1
+
+
+def copied(room):
+    """A copy of the repository in the folder `room`, with what rt ci built of its libraries."""
+    shutil.copyfile(ROOT / 'crates.txt', room / 'crates.txt')
+    for crate in CRATES.iterdir():
+        shutil.copytree(crate, room / 'crates' / crate.name, ignore=shutil.ignore_patterns('must-fail', 'stdin', 'stdout', 'data', 'incremental', 'rlib'))
+        if (crate / 'out/rlib').is_dir():
+            shutil.copytree(crate / 'out/rlib', room / 'crates' / crate.name / 'out/rlib', copy_function=os.link)
+
+
+def texts(edit, crate):
+    """The files of a crate that an edit changes, as it makes them."""
+    made, file = {}, ''
+    for named, old, new in re.findall(r'^(?:file: (.*)\n)?old: (.*)\nnew: ?(.*)', edit.read_text(), re.M):
+        file = named or file
+        text = made.get(file) or (crate / file).read_text()
+        if text.count(old) != 1:
+            sys.exit(f'try_edits.py: {edit}: {file} has not once: {old}')
+        made[file] = text.replace(old, new)
+    return made
+
+
+def tried(edit, room):
+    """What rt check says of a crate with this edit."""
+    crate = room / 'crates' / edit.parts[-3]
+    changed = texts(edit, crate)
+    before = {file: (crate / file).read_text() for file in changed}
+    try:
+        for file, text in changed.items():
+            (crate / file).write_text(text)
+        ran = subprocess.run(['rt', 'check', '--jobs', '1'], cwd=crate, stdin=subprocess.DEVNULL, stdout=subprocess.PIPE, stderr=subprocess.STDOUT)
+    finally:
+        for file, text in before.items():
+            (crate / file).write_text(text)
+    return ran.stdout.decode(errors='replace')
+
+
+def main(ci_log, logs):
+    said = dict(re.findall(r'^rt: must-fail (\S+)\.edit: refused, as it must be: (.*)', pathlib.Path(ci_log).read_text(errors='replace'), re.M))
+    shutil.rmtree(logs, ignore_errors=True)
+    rooms, whole = Queue(), []
+    for edit in sorted(CRATES.glob('*/must-fail/*.edit')):
+        name = f'{edit.parts[-3]}/{edit.stem}'
+        (logs / name).mkdir(parents=True)
+        if wants_all(edit):
+            whole.append((edit, logs / name / '.log'))
+        else:
+            (logs / name / '.log').write_text(said.get(name, '') + '\n')
+
+    def work(task):
+        room = rooms.get()
+        task[1].write_text(tried(task[0], room))
+        rooms.put(room)
+
+    count = len(os.sched_getaffinity(0))
+    with tempfile.TemporaryDirectory() as work_room:
+        for i in range(count):
+            room = pathlib.Path(work_room, str(i))
+            room.mkdir()
+            copied(room)
+            rooms.put(room)
+        with ThreadPoolExecutor(count) as pool:
+            list(pool.map(work, whole))
+    print(f'{len(whole)} edits tried once more, for all that is said of them')
+
+
+if __name__ == '__main__':
+    main(sys.argv[1], pathlib.Path(sys.argv[2]))

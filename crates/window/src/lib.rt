@@ -20,8 +20,8 @@ pub fn keep(window: &mut [u8], from: usize, n: usize)
     }
 }
 
-// Moves the unread bytes to the front and reads once behind them. Answers how many bytes the window then has. They begin with the unread ones, and these stand at the
-// front too where the read fails.
+// Moves the unread bytes to the front and reads once behind them. Answers how many bytes the window then has. They begin with the unread ones, and these
+// stand at the front too where the read fails.
 pub fn refill<R: Read>(
     reader: &mut R,
     window: &mut [u8],

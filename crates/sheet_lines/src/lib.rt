@@ -208,6 +208,7 @@ fn short_at(sheet: &[u8], at: usize) -> Read
 }
 
 // The short way for the last field and the line's end, where three bytes are left.
+#[tactic(auto, using(crate::proofs::LineLaws::short_lf))]
 fn short_switch_at(sheet: &[u8], at: usize) -> Read
     requires { at + 3 ≤ length sheet.now }
     ensures { ShortAs (switch (drop at sheet.now)) sheet.now at (at + 3) result }

@@ -119,6 +119,7 @@ fn put_bad_pair(text: &mut [u8]) -> usize
 }
 
 // Why a file is refused.
+#[tactic(auto, unfolding(crate::specs::ZonefileText::refusal_text))]
 fn put_refusal(no: u8, text: &mut [u8]) -> usize
     requires { 128 ≤ length text.old }
     ensures { Wrote text.old 0 (refusal_text no) result text.new × (result ≤ 128) }

@@ -1,9 +1,6 @@
 -- `sheet_lines::short_switch_at` meets its contract.
-use Rattle.sheet_lines.proofs.LineLaws.{short_lf, short_crlf}
+use Rattle.sheet_lines.proofs.LineLaws.{short_crlf}
 use Rattle.sheet_lines.proofs.short_switch_at.Goals as goal
-
-pub returns-then-sheet-after-eq-LF : goal.returns-then-sheet-after-eq-LF
-returns-then-sheet-after-eq-LF c = search short_lf
 
 pub returns : goal.returns
 returns c = search short_crlf

@@ -21,9 +21,10 @@ KINDS = [
     ('an arithmetic fact does not follow', r'^`omega`'),
     ('no proof of a fact is found', r'^`search`: no proof of|^it is not proved that'),
     ('an equation does not follow from those known', r'equations had joined|the equations do not join'),
+    ('what is left to show after rewriting is not shown', r'give a proof of that as the last argument|list the missing equation'),
     ('what is left to show is no equation of equal ends', r'must be a path whose two ends are equal'),
     ('a comparison is false', r'does not hold'),
-    ('what is shown is another statement', r'the two types (first )?differ|expected type `'),
+    ('what is shown is another statement', r'the two (types|sides) (first )?differ|the two types are|expected type `'),
 ]
 FACTS = dict(KINDS[1:])
 WORDS = ('`search`', '`omega`', '`cc`', '`rw`', '`simp`')
@@ -107,14 +108,23 @@ def kind(message):
     return next((name for name, pattern in KINDS if re.search(pattern, words)), UNKNOWN)
 
 
+def telling(found):
+    """The errors that count. A goal is named after the code, so a changed test may rename one: its answer, under the old name, is then an error that shows nothing,
+    and nor does a note that the goal is open, since it is without its answer. The errors at the goals that keep their names count."""
+    if any(kind(message) == SHAPE for _, _, message in found):
+        return [error for error in found if kind(error[2]) != SHAPE and not re.match('it is not proved that', error[2])]
+    return found
+
+
 def unseen(names, within, crate, said):
-    """What is wrong with the log of an edit that gets several functions, or promises, wrong: the first that has no error of its own, or none at a fact."""
-    for name in names if len(names) > 1 else []:
-        own = next((message for place, declared, message in errors(said) if within(name, crate, place, declared)), None)
-        if own is None:
-            return 'of several that it changes one has no error of its own', name
-        if kind(own) not in FACTS:
-            return kind(own), f'{name}: ' + ' '.join(own.split())
+    """What is wrong with the log of an edit that gets functions, or promises, wrong: the first that has no error of its own, or none at a fact."""
+    for name in names:
+        own = [error for error in errors(said) if within(name, crate, error[0], error[1])]
+        if not own:
+            return 'of those that it changes one has no error of its own', name
+        first = next(iter(telling(own)), own[0])
+        if kind(first[2]) not in FACTS:
+            return kind(first[2]), f'{name}: ' + ' '.join(first[2].split())
     return None
 
 
@@ -124,7 +134,7 @@ def read(crates, logs):
         name = f'{edit.parts[-3]}/{edit.stem}'
         log = logs / name / '.log'
         said = log.read_text(errors='replace') if log.is_file() else ''
-        error = next(iter(errors(said)), None)
+        error = next(iter(telling(errors(said)) or errors(said)), None)
         changes = edit.read_text()
         crate = edit.parent.parent
         folders = parts(changes)
@@ -160,6 +170,7 @@ def can_fail():
         'own_proof': 'fn a: proved\nnote: /src/lib.rt:1:1: it is not proved that what the function ensures holds (`returns`)\n',
         'later_shape': '/p: error: `x`: `omega`: it fails\n/p: error: `y`: record `lts.T` has no field `if1`\n',
         'no_field': '/p: error: `x`: record `lts.T` has no field `if1`\n/p: error: `y`: `omega`: it fails\n',
+        'note_of_a_renamed_goal': '/p: error: `x`: `tie` has no `Need-returns-2`\nnote: src/lib.rt:1:1: it is not proved that it returns\n',
         'no_need': '/p: error: `x`: `tie` has no `Need-returns-2`\n',
         'follows': '/p: error: `x`: `close` was not admitted, so\nnote: /src/lib.rt:1:1: it is not proved that it returns\n',
         'follows_shape': '/p: error: `x`: `close` was not admitted, so\n/p: error: `y`: `tie` has no `Need-returns-2`\n',
@@ -179,7 +190,7 @@ def can_fail():
         'promises_shape': f'{ONE}`omega`: it fails\n{TWO}`tie` has no `Need-2`\n',
         'promises_other': f'{ONE}`omega`: it fails\n{TWO.replace("two", "lemma")}`omega`: it fails\n',
         'promises_unproved': f'{ONE}`omega`: it fails\n{TWO}`omega`: it fails\n',
-        'with_contract': '/p: error: `x`: `omega`: it fails\nfn c::f: proved\nfn c::g: not proved\n',
+        'with_contract': f'{G}`omega`: it fails\nfn c::f: proved\nfn c::g: not proved\n',
         'agree': '/x/proofs/Law.antt:1:1: error: `x`: `omega`: it fails\nfn c::f: proved\nfn c::g: proved\n',
         'agree_not': '/x/proofs/Law.antt:1:1: error: `x`: `omega`: it fails\nfn c::f: proved\nfn c::g: not proved\n',
         'agree_no_law': '/x/proofs/f/Proof.antt:1:1: error: `x`: `omega`: it fails\nfn c::f: proved\nfn c::g: proved\n',
@@ -209,8 +220,8 @@ def can_fail():
                 (logs / 'c' / name).mkdir(parents=True)
                 (logs / 'c' / name / '.log').write_text(log)
         named = [line.split(':')[0] for line in bad(read(crates, logs))]
-    if named != ['c/agree_no_law', 'c/agree_not', 'c/follows_shape', 'c/lost', 'c/no_field', 'c/no_need', 'c/noted_elsewhere', 'c/one_of_two', 'c/only_follows', 'c/other', 'c/promises_follow',
-                 'c/promises_other', 'c/promises_shape', 'c/promises_unproved', 'c/proof', 'c/second_follows', 'c/second_other', 'c/second_shape', 'c/silent']:
+    if named != ['c/agree_no_law', 'c/agree_not', 'c/follows_shape', 'c/lost', 'c/no_need', 'c/note_of_a_renamed_goal', 'c/noted_elsewhere', 'c/one_of_two', 'c/only_follows', 'c/other', 'c/promises_follow',
+                 'c/promises_other', 'c/promises_shape', 'c/promises_unproved', 'c/proof', 'c/second_follows', 'c/second_other', 'c/silent']:
         sys.exit(f'edits.py: of the made-up logs these are refused: {named}')
 
 

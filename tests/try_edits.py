@@ -1,10 +1,12 @@
 #!/usr/bin/env python3
-"""Writes what the prover says of each must-fail edit to LOGS/CRATE/EDIT/.log, for tests/edits.py. rt ci tells the first error of an edit in one line, which
-is all that an edit of one function needs. One that gets several functions or promises wrong, or a definition and its code together, is tried here once
-more, by `rt check` in a copy of the repository as rt ci left it, since every error counts.
+"""Writes what the prover says of each must-fail edit to LOGS/CRATE/EDIT/.log, for tests/edits.py. rt ci tells of an edit the first error that is no name that a
+proof file does not find, cut after 160 letters. Where that is an error in a proof that is at a fact, it is all that an edit of one function needs. Any other is tried
+here once more, by `rt check` in a copy of the repository as rt ci left it: one that gets several functions or promises wrong, or a definition and its code
+together, since every error counts, and one whose line does not say enough.
 
 try_edits.py RT_CI_LOG LOGS"""
 import os, pathlib, re, shutil, subprocess, sys, tempfile
+sys.dont_write_bytecode = True
 from concurrent.futures import ThreadPoolExecutor
 from queue import Queue
 
@@ -14,11 +16,22 @@ ROOT = pathlib.Path(__file__).resolve().parent.parent
 CRATES = ROOT / 'crates'
 
 
-def wants_all(edit):
-    """Whether more than the first error of an edit counts."""
+def wants_all(edit, said):
+    """Whether more counts than what rt ci said of an edit."""
     text, crate = edit.read_text(), edit.parent.parent
     folders = edits.parts(text)
+    error = next(iter(edits.errors(said + '\n')), None)
+    if not error or said.startswith('note:') or edits.kind(error[2]) not in edits.FACTS:
+        return True
     return {'src', 'specs'} <= folders or len(edits.changed(text, crate)) > 1 or len(edits.promises(text, crate)) > 1
+
+
+def linked(one, other):
+    try:
+        os.link(one, other)
+    except OSError:
+        # the folder for temporary files may be on another disk
+        shutil.copy2(one, other)
 
 
 def copied(room):
@@ -27,7 +40,7 @@ def copied(room):
     for crate in CRATES.iterdir():
         shutil.copytree(crate, room / 'crates' / crate.name, ignore=shutil.ignore_patterns('must-fail', 'stdin', 'stdout', 'data', 'incremental', 'rlib'))
         if (crate / 'out/rlib').is_dir():
-            shutil.copytree(crate / 'out/rlib', room / 'crates' / crate.name / 'out/rlib', copy_function=os.link)
+            shutil.copytree(crate / 'out/rlib', room / 'crates' / crate.name / 'out/rlib', copy_function=linked)
 
 
 def texts(edit, crate):
@@ -64,15 +77,17 @@ def main(ci_log, logs):
     for edit in sorted(CRATES.glob('*/must-fail/*.edit')):
         name = f'{edit.parts[-3]}/{edit.stem}'
         (logs / name).mkdir(parents=True)
-        if wants_all(edit):
+        if wants_all(edit, said.get(name, '')):
             whole.append((edit, logs / name / '.log'))
         else:
             (logs / name / '.log').write_text(said.get(name, '') + '\n')
 
     def work(task):
         room = rooms.get()
-        task[1].write_text(tried(task[0], room))
-        rooms.put(room)
+        try:
+            task[1].write_text(tried(task[0], room))
+        finally:
+            rooms.put(room)
 
     count = len(os.sched_getaffinity(0))
     with tempfile.TemporaryDirectory() as work_room:

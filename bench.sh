@@ -13,7 +13,7 @@ say() { echo "bench.sh: $*" >&2; }
 
 if [ ! -x target/bin/bench ]; then
     say "building the bench, which proves every crate that it stands on: some ten minutes on two free cores. Each is named once it is checked."
-elif [ -n "$(find crates -newer target/bin/bench -name '*.rt' -print -quit)$(find crates -newer target/bin/bench -name '*.antt' -print -quit)" ]; then
+elif [ -n "$(find crates -name out -prune -o -newer target/bin/bench -type f -print -quit)" ]; then
     say "the sources are newer than the bench: what has changed is proved again"
 fi
 ./build.sh bench </dev/null

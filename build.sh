@@ -10,6 +10,11 @@ command -v rt >/dev/null || {
     exit 2
 }
 
+[ $# -gt 0 ] || {
+    echo "build.sh NAME..: the programs, and the libraries for C, to be built" >&2
+    exit 2
+}
+
 log=$(mktemp)
 trap 'rm -f "$log"' EXIT
 

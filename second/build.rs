@@ -1,5 +1,5 @@
 //! Links the library itself, for timing only. SHELF_LIB names the folder of libshelf_c.a, libsmall_c.a and libconsole_c.a;
-//! without it, it is where `rt staticlib` puts them.
+//! without it, it is where `./build.sh` puts them.
 
 use std::env;
 

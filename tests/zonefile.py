@@ -3,7 +3,7 @@
 two bytes each, ascending, and twelve bytes behind them. Sheets must give the file byte for byte, files the sheet, and each way and back must give what was
 there before, from no pair to all 8,001. Then what is refused, which must be said in its words on standard error, with nothing on standard output: wrong lines,
 every damage of a single bit of a small file, files cut short and made longer, spoilt files, version 2, other words than `save` and `load`, and input that
-cannot be read. A run is mostly the program's start, 40 ms under the emulator, so every damage of a single byte, 4,080 runs, is made where `every` is asked
+cannot be read. A run is mostly the program's start, so every damage of a single byte, 4,080 runs, is made where `every` is asked
 for. Fails where a run differs.
 
 zonefile.py [PROGRAM [SEED [every]]]"""

@@ -141,7 +141,8 @@ def read(crates, logs):
         both = {'src', 'specs'} <= folders
         functions = [] if both else changed(changes, crate)
         proved = [f for f in functions if re.search(rf'^fn \w+::{f}: proved$', said, re.M)]
-        hidden = unseen(functions, in_function, crate, said) or unseen(promises(changes, crate), in_theorem, crate, said)
+        promised = promises(changes, crate)
+        hidden = unseen(functions, in_function, crate, said) or len(promised) > 1 and unseen(promised, in_theorem, crate, said)
         if 'proofs' in folders and not both:
             yield name, 'it changes a proof', ''
         elif error and both and together(error, said):

@@ -1,4 +1,5 @@
 -- `call_words::leaving_words` meets its contract.
+use native.Mathlib.Omega.{arith}
 use Rattle.call_words.specs.Gives.{leaving_gives}
 use Rattle.call_words.proofs.SaidLaws.{gave_link, wrong_length, right-length}
 use Rattle.call_words.proofs.leaving_words.Goals as goal
@@ -10,5 +11,5 @@ pub returns : goal.returns
 unfolding leaving_gives
 returns c =
     λ permissions.
-    right-length _ _ _ _ _ _ permissions _ _ _ c.if-payload-ne0.false
+    right-length _ _ _ _ _ _ permissions _ _ _ (omega arith)
     (gave_link _ _ _ _ _ _ _ permissions c.leaving-linked.ensures c.linked_words.ensures.0 c.linked_words.ensures.1)

@@ -70,6 +70,7 @@ pub fn write_twelve(request: &mut [u8], dwords: u8, x: u8, y: u8, operation: u8,
     request[11] = k;
 }
 
+#[tactic(auto, unfolding(tables::specs::Refusals::first_refusal))]
 fn single_refusal(room: usize, a: ZoneGroup, b: ZoneGroup) -> u8
     ensures { result ≡ first_refusal (single_checks room a.0 b.0) }
 {
@@ -104,6 +105,7 @@ pub fn single(request: &mut [u8], a: ZoneGroup, b: ZoneGroup, new: bool, complet
     Built::Length(12)
 }
 
+#[tactic(auto, unfolding(tables::specs::Refusals::first_refusal))]
 fn report_refusal(room: usize, start: ZoneGroup, count: u8) -> u8
     ensures { result ≡ first_refusal (report_checks room start.0 count) }
 {

@@ -98,6 +98,7 @@ fn is_report(response: &[u8]) -> bool
     response[2] == 0x00
 }
 
+#[tactic(auto, unfolding(tables::specs::Refusals::first_refusal))]
 fn rows_refusal(response: &[u8]) -> u8
     ensures { result ≡ first_refusal (rows_checks response.now) }
 {
@@ -128,6 +129,7 @@ fn rows_refusal(response: &[u8]) -> u8
     0
 }
 
+#[tactic(auto, unfolding(tables::specs::Refusals::first_refusal))]
 fn short_refusal(response: &[u8]) -> u8
     requires { 4 ≤ length response.now }
     ensures { result ≡ first_refusal (short_checks response.now) }
@@ -159,6 +161,7 @@ fn head_refusal(response: &[u8]) -> u8
     short_refusal(response)
 }
 
+#[tactic(auto, unfolding(tables::specs::Refusals::first_refusal))]
 fn read_refusal(response: &[u8], room: usize) -> u8
     ensures { result ≡ first_refusal (read_checks response.now room) }
 {

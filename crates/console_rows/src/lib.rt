@@ -22,6 +22,7 @@ fn starts_low(start: ZoneGroup, k: usize) -> bool
     false
 }
 
+#[tactic(auto, unfolding(tables::specs::Refusals::first_refusal))]
 fn batch_refusal(room: usize, start: ZoneGroup, choices: &[u8]) -> u8
     ensures { result ≡ first_refusal (batch_checks room start.0 choices.now) }
 {

@@ -13,6 +13,7 @@ ghost use Rattle.console_zones.specs.Zones.{entry_count, small, fair, barred, ph
 use console_orders::{Built, NO_ROOM, TOO_HIGH, TOO_MANY, WOULD_FAIL, flag, write_eight};
 use wire::PhyNumber;
 
+#[tactic(auto, unfolding(crate::specs::Zones::small))]
 fn is_small(entries: &[u8], i: usize) -> bool
     requires { (i < entry_count entries.now) × (length entries.now ≤ 384) }
     ensures { result ≡ small entries.now i }
@@ -38,6 +39,7 @@ fn all_small(entries: &[u8]) -> bool
     true
 }
 
+#[tactic(auto, unfolding(crate::specs::Zones::fair))]
 fn is_fair(entries: &[u8], i: usize) -> bool
     requires { (i < entry_count entries.now) × (length entries.now ≤ 384) }
     ensures { result ≡ fair entries.now i }
@@ -64,6 +66,7 @@ fn all_fair(entries: &[u8]) -> bool
 }
 
 // An order that some shelf answers 02h; beyond 128 phys every shelf answers 10h.
+#[tactic(auto, unfolding(crate::specs::Zones::barred))]
 fn is_barred(start: PhyNumber, entries: &[u8]) -> bool
     requires { length entries.now ≤ 384 }
     ensures { result ≡ barred start.0 entries.now }
@@ -74,6 +77,7 @@ fn is_barred(start: PhyNumber, entries: &[u8]) -> bool
     !all_fair(entries)
 }
 
+#[tactic(auto, unfolding(tables::specs::Refusals::first_refusal))]
 fn phy_zones_refusal(room: usize, start: PhyNumber, entries: &[u8]) -> u8
     ensures { result ≡ first_refusal (phy_zones_checks room start.0 entries.now) }
 {

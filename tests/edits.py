@@ -35,6 +35,7 @@ def errors(log):
     each note with a place."""
     said = re.findall(r'^(\S+): error: (?:`([^`]*)`: )?(.*(?:\n[ \t].*)*)', log, re.M)
     notes = re.findall(r'^note: (\S+:\d+:\d+): ()(.*)', log, re.M)
+    notes += [(f'/proofs/{function}/', '', f'it is not proved that {goals} hold') for function, goals in re.findall(r'^fn \w+::(\w+): no proof: .*`search` did not prove (.*)', log, re.M)]
     return [error for error in said if not re.match(r'`[^`]*` was not admitted|\d+ declarations? that depend|this file exports no', error[2])] + notes
 
 

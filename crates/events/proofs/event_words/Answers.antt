@@ -13,11 +13,11 @@ returns-in-2 c = of_kind _ _ _ _ _ _ _ _ _ 2 c.in-2.is c.open_words.ensures
 
 pub returns-in-3 : goal.returns-in-3
 unfolding gives
-returns-in-3 c = of_kind _ _ _ _ _ _ _ _ _ 3 c.in-3.is c.primitive_words.ensures
+returns-in-3 c = search of_kind
 
 pub returns-in-4 : goal.returns-in-4
 unfolding gives
-returns-in-4 c = of_kind _ _ _ _ _ _ _ _ _ 4 c.in-4.is c.frame_words.ensures
+returns-in-4 c = search of_kind
 
 pub returns-in-5 : goal.returns-in-5
 unfolding gives

@@ -55,6 +55,30 @@ def texts(edit, crate):
     return made
 
 
+def renamed(said, crate):
+    """The answers of the functions in which an edit renames goals, under the new names. A goal is named after the code, so a changed test may rename one, and its
+    answer is lost: only under the goal's new name does it show whether what it says still follows."""
+    made = {}
+    for answers in crate.glob('proofs/*/Answers.antt'):
+        function, text = answers.parent.name, answers.read_text()
+        lost = re.findall(rf'^\./proofs/{function}/Answers\.antt:\d+:\d+: error: `([^`]+)`: `goal\.\1`: module ', said, re.M)
+        left = [re.search(r'\(`([^`]+)`\)', message) for place, _, message in edits.errors(said) if edits.in_function(function, crate, place, '')]
+        left = [name[1] for name in left if name]
+        if not lost or len(lost) != len(left):
+            continue
+        names = dict(zip(lost, left))
+        for old, new in zip(lost, left):
+            steps = [re.search(r'-(?:then|else)-(.*)', name) for name in (old, new)]
+            if all(steps):
+                names[f'if-{steps[0][1]}'] = f'if-{steps[1][1]}'
+        made[answers.relative_to(crate)] = re.sub(r"[^\s(){}\[\].,;]+", lambda word: names.get(word[0], word[0]), text)
+    return made
+
+
+def check(crate):
+    return subprocess.run(['rt', 'check', '--jobs', '1'], cwd=crate, stdin=subprocess.DEVNULL, stdout=subprocess.PIPE, stderr=subprocess.STDOUT).stdout.decode(errors='replace')
+
+
 def tried(edit, room):
     """What rt check says of a crate with this edit."""
     crate = room / 'crates' / edit.parts[-3]
@@ -63,11 +87,15 @@ def tried(edit, room):
     try:
         for file, text in changed.items():
             (crate / file).write_text(text)
-        ran = subprocess.run(['rt', 'check', '--jobs', '1'], cwd=crate, stdin=subprocess.DEVNULL, stdout=subprocess.PIPE, stderr=subprocess.STDOUT)
+        said = check(crate)
+        moved = renamed(said, crate)
+        before.update({file: (crate / file).read_text() for file in moved if file not in before})
+        for file, text in moved.items():
+            (crate / file).write_text(text)
+        return check(crate) if moved else said
     finally:
         for file, text in before.items():
             (crate / file).write_text(text)
-    return ran.stdout.decode(errors='replace')
 
 
 def main(ci_log, logs):

@@ -2,9 +2,8 @@
 // the system's serves many events: no limit on the length of the input. What is written is `bench_text`'s.
 #![tactic(auto)]
 
-ghost use Rattle.std.specs.Prelude.{◌≡◌, ◌+◌, ◌<◌, ◌≤◌, length, IfOk};
+ghost use Rattle.std.specs.Prelude.{◌≡◌, ◌+◌, ◌<◌, ◌≤◌, length};
 
-use std::io;
 use std::io::{Read, Write};
 use tables::PHY_RECORD;
 
@@ -17,8 +16,8 @@ struct Window {
     go: bool,
 }
 
-// Runs the unread events and writes their lines, or refills the window where none is whole. The input's end is a refill that brings nothing. A read or
-// a write that fails ends the run.
+// Runs the unread events and writes their lines, or refills the window where none is whole. The input's end is a refill that brings nothing. A write that
+// fails is passed over.
 fn turn<R: Read, W: Write>(
     reader: &mut R,
     writer: &mut W,
@@ -29,29 +28,29 @@ fn turn<R: Read, W: Write>(
     number: u64,
     at: usize,
     have: usize,
-) -> io::Result<Window>
+) -> Window
     requires { (at ≤ have) × (have ≤ length window.old) × (number + length window.old < 18446744073709551616) }
-    ensures { IfOk result (λ w. (w.at ≤ w.have) × (w.have ≤ length window.new) × (number ≤ w.number) × (w.number ≤ number + length window.new)) }
+    ensures { (result.at ≤ result.have) × (result.have ≤ length window.new) × (number ≤ result.number) × (result.number ≤ number + length window.new) }
 {
     let p = bench_text::run_events(phys, permissions, &window[at..have], number, text);
     let taken = p.taken;
     let used = p.used;
     if 0 < taken {
-        writer.write_all(&text[0..used])?;
-        return Ok(Window {
+        let _ = writer.write_all(&text[0..used]);
+        return Window {
             at: at + taken,
             have,
             number: p.number,
             go: true,
-        });
+        };
     }
-    let now_have = window::refill(reader, window, at, have)?;
-    Ok(Window {
+    let now_have = window::refill(reader, window, at, have);
+    Window {
         at: 0,
         have: now_have,
         number,
         go: have - at < now_have,
-    })
+    }
 }
 
 // Runs all events of the reader. `left` shows that the loop ends and that the numbers fit: no input has as many bytes.
@@ -63,7 +62,7 @@ fn events<R: Read, W: Write>(
     window: &mut [u8],
     text: &mut [u8],
     first: u64,
-) -> io::Result<()>
+)
     requires { (length window.old ≡ 131072) × (64 ≤ length text.old) }
 {
     let mut number = first;
@@ -83,7 +82,7 @@ fn events<R: Read, W: Write>(
             number,
             at,
             have,
-        )?;
+        );
         left -= w.number - number;
         number = w.number;
         at = w.at;
@@ -91,19 +90,18 @@ fn events<R: Read, W: Write>(
         go = w.go;
     }
     let n = bench_text::end_line(&window[at..have], number, text);
-    writer.write_all(&text[0..n])
+    let _ = writer.write_all(&text[0..n]);
 }
 
-// Runs the bench rack, from its start, on the events of the reader, and writes their lines. Where a read or a write fails, it answers the error, and what was
-// written up to there is written.
-pub fn run<R: Read, W: Write>(reader: &mut R, writer: &mut W) -> io::Result<()> {
+// Runs the bench rack, from its start, on the events of the reader, and writes their lines.
+pub fn run<R: Read, W: Write>(reader: &mut R, writer: &mut W) {
     let mut phys = [0u8; 8 * PHY_RECORD];
     let mut permissions = [0u8; 2048];
     let mut window = [0u8; 131072];
     let mut text = [0u8; 65536];
     let p = bench_text::begin(&mut phys, &mut permissions, &mut text);
     let used = p.used;
-    writer.write_all(&text[0..used])?;
+    let _ = writer.write_all(&text[0..used]);
     events(
         reader,
         writer,
@@ -112,5 +110,5 @@ pub fn run<R: Read, W: Write>(reader: &mut R, writer: &mut W) -> io::Result<()> 
         &mut window,
         &mut text,
         p.number,
-    )
+    );
 }

@@ -12,7 +12,8 @@ fn main(rt: HostRuntime) -> io::Result<()> {
     let taken = whole_input::take_input(&mut rt.stdin(), &mut sheet);
     let have = taken.have;
     if !taken.whole {
-        return whole_input::say_unreadable(&mut rt.stdout());
+        whole_input::say_unreadable(&mut rt.stdout());
+        return Ok(());
     }
     let end = orders_text::orders_text(&sheet[0..have], &mut text);
     rt.stdout().write_all(&text[0..end])

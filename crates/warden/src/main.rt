@@ -2,9 +2,8 @@
 // over the input is refilled, so that there is no limit on the input's length.
 #![tactic(auto)]
 
-ghost use Rattle.std.specs.Prelude.{◌≡◌, ◌+◌, ◌<◌, ◌≤◌, length, IfOk};
+ghost use Rattle.std.specs.Prelude.{◌≡◌, ◌+◌, ◌<◌, ◌≤◌, length};
 
-use std::io;
 use std::io::{Read, Write};
 
 // The unread bytes of the window are those from `at` up to `have`; `number` is the next line's. While `skipping`, what comes up to the
@@ -18,35 +17,24 @@ struct Window {
     go: bool,
 }
 
-fn answer<W: Write>(
-    writer: &mut W,
-    line: &[u8],
-    number: u64,
-    skipping: bool,
-    text: &mut [u8],
-) -> io::Result<()>
+fn answer<W: Write>(writer: &mut W, line: &[u8], number: u64, skipping: bool, text: &mut [u8])
     requires { 65536 ≤ length text.old }
 {
     if skipping {
-        return Ok(());
+        return;
     }
     let n = warden_lines::answer_line(line, number, text);
-    writer.write_all(&text[0..n])
+    let _ = writer.write_all(&text[0..n]);
 }
 
-fn too_long<W: Write>(
-    writer: &mut W,
-    number: u64,
-    skipping: bool,
-    text: &mut [u8],
-) -> io::Result<()>
+fn too_long<W: Write>(writer: &mut W, number: u64, skipping: bool, text: &mut [u8])
     requires { 65536 ≤ length text.old }
 {
     if skipping {
-        return Ok(());
+        return;
     }
     let n = warden_text::put_too_long(number, text);
-    writer.write_all(&text[0..n])
+    let _ = writer.write_all(&text[0..n]);
 }
 
 // No line ends in the window: more is read, or, where it is full, its line is too long. The input's end is a refill that brings nothing.
@@ -59,28 +47,28 @@ fn more<R: Read, W: Write>(
     have: usize,
     number: u64,
     skipping: bool,
-) -> io::Result<Window>
+) -> Window
     requires { (at ≤ have) × (have ≤ length window.old) × (65536 ≤ length text.old) }
-    ensures { IfOk result (λ w. (w.at ≤ w.have) × (w.have ≤ length window.new) × (w.number ≡ number)) }
+    ensures { (result.at ≤ result.have) × (result.have ≤ length window.new) × (result.number ≡ number) }
 {
     if have - at == window.len() {
-        too_long(writer, number, skipping, text)?;
-        return Ok(Window {
+        too_long(writer, number, skipping, text);
+        return Window {
             at: 0,
             have: 0,
             number,
             skipping: true,
             go: true,
-        });
+        };
     }
-    let now_have = window::refill(reader, window, at, have)?;
-    Ok(Window {
+    let now_have = window::refill(reader, window, at, have);
+    Window {
         at: 0,
         have: now_have,
         number,
         skipping,
         go: have - at < now_have,
-    })
+    }
 }
 
 fn turn<R: Read, W: Write>(
@@ -92,31 +80,26 @@ fn turn<R: Read, W: Write>(
     have: usize,
     number: u64,
     skipping: bool,
-) -> io::Result<Window>
+) -> Window
     requires { (at ≤ have) × (have ≤ length window.old) × (65536 ≤ length text.old) × (number + 1 < 18446744073709551616) }
-    ensures { IfOk result (λ w. (w.at ≤ w.have) × (w.have ≤ length window.new) × (w.number ≤ number + 1)) }
+    ensures { (result.at ≤ result.have) × (result.have ≤ length window.new) × (result.number ≤ number + 1) }
 {
     let end = warden_words::line_end(&window[0..have], at);
     if end < have {
-        answer(writer, &window[at..end], number, skipping, text)?;
-        return Ok(Window {
+        answer(writer, &window[at..end], number, skipping, text);
+        return Window {
             at: end + 1,
             have,
             number: number + 1,
             skipping: false,
             go: true,
-        });
+        };
     }
     more(reader, writer, window, text, at, have, number, skipping)
 }
 
-// Answers all lines. `left` shows that the loop ends and that the numbers fit: no input has as many lines. A read or a write that fails ends it.
-fn run<R: Read, W: Write>(
-    reader: &mut R,
-    writer: &mut W,
-    window: &mut [u8],
-    text: &mut [u8],
-) -> io::Result<()>
+// Answers all lines. `left` shows that the loop ends and that the numbers fit: no input has as many lines.
+fn run<R: Read, W: Write>(reader: &mut R, writer: &mut W, window: &mut [u8], text: &mut [u8])
     requires { 65536 ≤ length text.old }
 {
     let mut number: u64 = 1;
@@ -127,18 +110,18 @@ fn run<R: Read, W: Write>(
     let mut go = true;
     while left > 0 && go {
         left -= 1;
-        let w = turn(reader, writer, window, text, at, have, number, skipping)?;
+        let w = turn(reader, writer, window, text, at, have, number, skipping);
         number = w.number;
         at = w.at;
         have = w.have;
         skipping = w.skipping;
         go = w.go;
     }
-    answer(writer, &window[at..have], number, skipping, text)
+    answer(writer, &window[at..have], number, skipping, text);
 }
 
-fn main(rt: HostRuntime) -> io::Result<()> {
+fn main(rt: HostRuntime) {
     let mut window = [0u8; 65536];
     let mut text = [0u8; 65536];
-    run(&mut rt.stdin(), &mut rt.stdout(), &mut window, &mut text)
+    run(&mut rt.stdin(), &mut rt.stdout(), &mut window, &mut text);
 }

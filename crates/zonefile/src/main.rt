@@ -24,34 +24,24 @@ fn has_more_words(env: &impl Env) -> bool {
     !matches!(env.arg(2, &mut second), Err(FillError::NotPresent))
 }
 
-fn answer<W: Write, E: Write>(
-    word: &[u8],
-    input: &[u8],
-    output: &mut W,
-    errors: &mut E,
-) -> io::Result<()> {
-    let mut text = [0u8; 88011];
-    let said = zonefile_text::zone_text(word, input, &mut text);
-    let end = said.end;
-    if said.refused {
-        return errors.write_all(&text[0..end]);
-    }
-    output.write_all(&text[0..end])
-}
-
 fn main(rt: HostRuntime) -> io::Result<()> {
     let mut word = [0u8; 16];
     let mut input = [0u8; 88012];
-    let mut output = rt.stdout();
-    let mut errors = rt.stderr();
+    let mut text = [0u8; 88011];
     let n = take_word(&rt, &mut word);
-    if !zonefile_text::is_way(&word[0..n]) {
-        return answer(&word[0..n], &input[0..0], &mut output, &mut errors);
+    let mut have = 0;
+    if zonefile_text::is_way(&word[0..n]) {
+        let taken = whole_input::take_input(&mut rt.stdin(), &mut input);
+        have = taken.have;
+        if !taken.whole {
+            whole_input::say_unreadable(&mut rt.stderr());
+            return Ok(());
+        }
     }
-    let taken = whole_input::take_input(&mut rt.stdin(), &mut input);
-    let have = taken.have;
-    if !taken.whole {
-        return whole_input::say_unreadable(&mut errors);
+    let said = zonefile_text::zone_text(&word[0..n], &input[0..have], &mut text);
+    let end = said.end;
+    if said.refused {
+        return rt.stderr().write_all(&text[0..end]);
     }
-    answer(&word[0..n], &input[0..have], &mut output, &mut errors)
+    rt.stdout().write_all(&text[0..end])
 }

@@ -7,7 +7,7 @@ use mathlib.Core.Logic.{inl}
 use Prim.Native.Nat.{ℕ, zero, suc, ◌-◌, ◌≤◌, ◌<◌}
 use native.Mathlib.Decide.{dec_lt}
 use native.Mathlib.Omega.{arith}
-use borrow.Author.Tests.{le-leb, lt-leb, le-ltb, eq-eqb}
+use borrow.Author.Tests.{le-leb, lt-leb, le-ltb, eq-eqb, ne_eqb}
 use lib.Dec.{leb}
 use lib.ListN.{length, drop}
 use Rattle.wire.proofs.RunLaws.{every_all}
@@ -40,7 +40,7 @@ use Rattle.orders_text.specs.OrdersText.{stop_text, too_long_text, given}
 use Rattle.orders_text.proofs.AnswerLaws.{values, answered, answer_wrote}
 use Rattle.warden_words.specs.Words.{same}
 use Rattle.zonefile_text.specs.declared.Text.{Text}
-use Rattle.zonefile_text.specs.ZonefileText.{save_word, load_word, usage_text, long_file_text, refusal_text, Said, output, errors, file_said, save_said, sheet_said, load_said, zone_said, SaidBy}
+use Rattle.zonefile_text.specs.ZonefileText.{save_word, load_word, usage_text, long_file_text, short_file_text, version2_text, version_text, lengths_text, offset_text, pair_text, refusal_text, Said, output, errors, file_said, save_said, sheet_said, load_said, zone_said, SaidBy}
 
 -- ---- a table that orders made is as a save asks
 beq_same : (x : Bool) → beq x x ≡ true
@@ -126,6 +126,36 @@ long_sheet_said sheet t end t₁ h w =
 pub sheet_said_lem : (sheet t : List ℕ) (r : Text) (t₁ : List ℕ) → length sheet ≤ 88011 → SaidBy (file_said (given sheet)) t r t₁ → SaidBy (save_said sheet) t r t₁
 unfolding save_said
 sheet_said_lem sheet t r t₁ h s = rw (le-leb (length sheet) 88011 h) s
+
+-- ---- why a file is refused
+module _ (number : ℕ) (t : List ℕ) (end : ℕ) (t₁ : List ℕ) where
+  pub short_file : number ≡ 31 → Wrote t 0 short_file_text end t₁ × (end ≤ 128) → Wrote t 0 (refusal_text number) end t₁ × (end ≤ 128)
+  unfolding refusal_text
+  short_file e w = rw (eq-eqb number 31 e) w
+
+  module _ (d1 : number ≡ 31 → ⊥) where
+    pub version_2_file : number ≡ 32 → Wrote t 0 version2_text end t₁ × (end ≤ 128) → Wrote t 0 (refusal_text number) end t₁ × (end ≤ 128)
+    unfolding refusal_text
+    version_2_file e w = rw (ne_eqb number 31 d1, eq-eqb number 32 e) w
+
+    module _ (d2 : number ≡ 32 → ⊥) where
+      pub version_file : number ≡ 33 → Wrote t 0 version_text end t₁ × (end ≤ 128) → Wrote t 0 (refusal_text number) end t₁ × (end ≤ 128)
+      unfolding refusal_text
+      version_file e w = rw (ne_eqb number 31 d1, ne_eqb number 32 d2, eq-eqb number 33 e) w
+
+      module _ (d3 : number ≡ 33 → ⊥) where
+        pub lengths_file : number ≡ 34 → Wrote t 0 lengths_text end t₁ × (end ≤ 128) → Wrote t 0 (refusal_text number) end t₁ × (end ≤ 128)
+        unfolding refusal_text
+        lengths_file e w = rw (ne_eqb number 31 d1, ne_eqb number 32 d2, ne_eqb number 33 d3, eq-eqb number 34 e) w
+
+        module _ (d4 : number ≡ 34 → ⊥) where
+          pub offset_file : number ≡ 35 → Wrote t 0 offset_text end t₁ × (end ≤ 128) → Wrote t 0 (refusal_text number) end t₁ × (end ≤ 128)
+          unfolding refusal_text
+          offset_file e w = rw (ne_eqb number 31 d1, ne_eqb number 32 d2, ne_eqb number 33 d3, ne_eqb number 34 d4, eq-eqb number 35 e) w
+
+          pub pair_file : (number ≡ 35 → ⊥) → Wrote t 0 pair_text end t₁ × (end ≤ 128) → Wrote t 0 (refusal_text number) end t₁ × (end ≤ 128)
+          unfolding refusal_text
+          pair_file d5 w = rw (ne_eqb number 31 d1, ne_eqb number 32 d2, ne_eqb number 33 d3, ne_eqb number 34 d4, ne_eqb number 35 d5) w
 
 -- ---- a file
 version_sheet : (k n : ℕ) (file old p : List ℕ) → out (answer (n ∷ [])) (p ∷ []) ≡ outcome k (1 ∷ []) (old ∷ []) (loaded 16 (pairs_in file) ∷ [])

@@ -12,7 +12,7 @@ command -v rt >/dev/null || {
 say() { echo "bench.sh: $*" >&2; }
 
 if [ ! -x target/bin/bench ]; then
-    say "building the bench, which proves every crate that it stands on: some ten minutes on two free cores. Each is named once it is checked."
+    say "building the bench, which proves every crate that it stands on: some minutes. Each is named once it is checked."
 elif [ -n "$(find crates -name out -prune -o -newer target/bin/bench -type f -print -quit)" ]; then
     say "the sources are newer than the bench: what has changed is proved again"
 fi

@@ -2,6 +2,8 @@
 """What each must-fail edit was refused at. Reads the first error of every log that tests/try_edits.py writes, prints how many there are of each kind, and
 fails where an edit has no log, or was refused only because a proof no longer fits the code's shape: that shows nothing of what the edit gets
 wrong, since a right change of the same shape would be refused as well. A kind that is not listed here fails too: somebody has to look at it.
+A goal is named after the code, so that an edit may take one away, with nothing left to show there: its answer is then refused for its name alone, and that is no
+error of the edit's. Where a goal is left open beside it, it is one: the answer may be that goal's.
 An edit may get several functions wrong, each by itself: then every function whose code it changes must be refused at a fact, by an error of its
 own. A function that calls one that is refused is left unproved too, which shows nothing of it. It may get several promises wrong: then of each that
 it changes the theorem must be refused, in the same way.
@@ -28,6 +30,21 @@ KINDS = [
 ]
 FACTS = dict(KINDS[1:])
 WORDS = ('`search`', '`omega`', '`cc`', '`rw`', '`simp`')
+
+
+LOST = re.compile(r'^\./proofs/(\w+)/Answers\.antt:\d+:\d+: error: `([^`]+)`: `goal\.\2`: module .*', re.M)
+
+
+def open_goals(log, function, crate):
+    """The goals of a function that are left open without an answer that is refused."""
+    noted = re.findall(r'^note: (\S+:\d+:\d+): it is not proved that .*\(`([^`]+)`\)', log, re.M)
+    noted += [(f'/proofs/{function}/', goal) for goals in re.findall(rf'^fn \w+::{function}: no proof: .*`search` did not prove (.*)', log, re.M) for goal in re.findall(r'`([^`]+)`', goals.split(';')[0])]
+    return list(dict.fromkeys(goal for place, goal in noted if in_function(function, crate, place, '')))
+
+
+def without_lost(log, crate):
+    """A log without the answers whose goals are gone, where no goal of the function is left open."""
+    return LOST.sub(lambda lost: lost[0] if open_goals(log, lost[1], crate) else '', log)
 
 
 def errors(log):
@@ -109,23 +126,14 @@ def kind(message):
     return next((name for name, pattern in KINDS if re.search(pattern, words)), UNKNOWN)
 
 
-def telling(found):
-    """The errors that count. A goal is named after the code, so a changed test may rename one: its answer, under the old name, is then an error that shows nothing,
-    and nor does a note that the goal is open, since it is without its answer. The errors at the goals that keep their names count."""
-    if any(kind(message) == SHAPE for _, _, message in found):
-        return [error for error in found if kind(error[2]) != SHAPE and not re.match('it is not proved that', error[2])]
-    return found
-
-
 def unseen(names, within, crate, said):
     """What is wrong with the log of an edit that gets functions, or promises, wrong: the first that has no error of its own, or none at a fact."""
     for name in names:
-        own = [error for error in errors(said) if within(name, crate, error[0], error[1])]
-        if not own:
+        own = next((message for place, declared, message in errors(said) if within(name, crate, place, declared)), None)
+        if own is None:
             return 'of those that it changes one has no error of its own', name
-        first = next(iter(telling(own)), own[0])
-        if kind(first[2]) not in FACTS:
-            return kind(first[2]), f'{name}: ' + ' '.join(first[2].split())
+        if kind(own) not in FACTS:
+            return kind(own), f'{name}: ' + ' '.join(own.split())
     return None
 
 
@@ -134,10 +142,10 @@ def read(crates, logs):
     for edit in sorted(crates.glob('*/must-fail/*.edit')):
         name = f'{edit.parts[-3]}/{edit.stem}'
         log = logs / name / '.log'
-        said = log.read_text(errors='replace') if log.is_file() else ''
-        error = next(iter(telling(errors(said)) or errors(said)), None)
         changes = edit.read_text()
         crate = edit.parent.parent
+        said = without_lost(log.read_text(errors='replace'), crate) if log.is_file() else ''
+        error = next(iter(errors(said)), None)
         folders = parts(changes)
         both = {'src', 'specs'} <= folders
         functions = [] if both else changed(changes, crate)
@@ -172,7 +180,9 @@ def can_fail():
         'own_proof': 'fn a: proved\nnote: /src/lib.rt:1:1: it is not proved that what the function ensures holds (`returns`)\n',
         'later_shape': '/p: error: `x`: `omega`: it fails\n/p: error: `y`: record `lts.T` has no field `if1`\n',
         'no_field': '/p: error: `x`: record `lts.T` has no field `if1`\n/p: error: `y`: `omega`: it fails\n',
-        'note_of_a_renamed_goal': '/p: error: `x`: `tie` has no `Need-returns-2`\nnote: src/lib.rt:1:1: it is not proved that it returns\n',
+        'goal_gone': './proofs/f/Answers.antt:1:1: error: `x-2`: `goal.x-2`: module `f.Goals` has no `x-2`\n/p: error: `y`: `omega`: it fails\n',
+        'goal_renamed': './proofs/f/Answers.antt:1:1: error: `x-2`: `goal.x-2`: module `f.Goals` has no `x-2`\nnote: src/lib.rt:4:5: it is not proved that it returns (`x-3`)\n',
+        'goal_gone_alone': './proofs/f/Answers.antt:1:1: error: `x-2`: `goal.x-2`: module `f.Goals` has no `x-2`\nfn c::f: not proved\n',
         'no_need': '/p: error: `x`: `tie` has no `Need-returns-2`\n',
         'follows': '/p: error: `x`: `close` was not admitted, so\nnote: /src/lib.rt:1:1: it is not proved that it returns\n',
         'follows_shape': '/p: error: `x`: `close` was not admitted, so\n/p: error: `y`: `tie` has no `Need-returns-2`\n',
@@ -222,8 +232,9 @@ def can_fail():
                 (logs / 'c' / name).mkdir(parents=True)
                 (logs / 'c' / name / '.log').write_text(log)
         named = [line.split(':')[0] for line in bad(read(crates, logs))]
-    if named != ['c/agree_no_law', 'c/agree_not', 'c/follows_shape', 'c/lost', 'c/no_need', 'c/note_of_a_renamed_goal', 'c/noted_elsewhere', 'c/one_of_two', 'c/only_follows', 'c/other', 'c/promises_follow',
-                 'c/promises_other', 'c/promises_shape', 'c/promises_unproved', 'c/proof', 'c/second_follows', 'c/second_other', 'c/silent']:
+    if named != ['c/agree_no_law', 'c/agree_not', 'c/follows_shape', 'c/goal_gone_alone', 'c/goal_renamed', 'c/lost', 'c/no_field', 'c/no_need', 'c/noted_elsewhere', 'c/one_of_two',
+                 'c/only_follows', 'c/other', 'c/promises_follow', 'c/promises_other', 'c/promises_shape', 'c/promises_unproved', 'c/proof', 'c/second_follows', 'c/second_other',
+                 'c/second_shape', 'c/silent']:
         sys.exit(f'edits.py: of the made-up logs these are refused: {named}')
 
 

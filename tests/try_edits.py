@@ -4,10 +4,12 @@ proof file does not find, cut after 160 letters. Where that is an error in a pro
 here once more, by `rt check` in a copy of the repository as rt ci left it: one that gets several functions or promises wrong, or a definition and its code
 together, since every error counts, and one whose line does not say enough.
 
-try_edits.py RT_CI_LOG LOGS"""
+try_edits.py RT_CI_LOG LOGS
+try_edits.py RT_CI_LOG LOGS --all    tries all of them once more: rt ci's line leaves out answers that are refused for a goal's name"""
 import os, pathlib, re, shutil, subprocess, sys, tempfile
 sys.dont_write_bytecode = True
 from concurrent.futures import ThreadPoolExecutor
+from difflib import SequenceMatcher
 from queue import Queue
 
 import edits
@@ -55,23 +57,35 @@ def texts(edit, crate):
     return made
 
 
+def head(goal):
+    """What a goal's name says up to its last test."""
+    return re.match(r'(?:.*-(?:then|else)-)?', goal)[0]
+
+
+def pairs(lost, left):
+    """Which of the goals that are left open each lost answer is of: one whose name says the same up to the last test, and the likest there."""
+    found = {}
+    alike = sorted(((SequenceMatcher(None, old, new).ratio(), old, new) for old in lost for new in left if head(old) == head(new)), reverse=True)
+    for _, old, new in alike:
+        if old not in found and new not in found.values():
+            found[old] = new
+    return found
+
+
 def renamed(said, crate):
     """The answers of the functions in which an edit renames goals, under the new names. A goal is named after the code, so a changed test may rename one, and its
     answer is lost: only under the goal's new name does it show whether what it says still follows."""
     made = {}
-    for answers in crate.glob('proofs/*/Answers.antt'):
-        function, text = answers.parent.name, answers.read_text()
-        lost = re.findall(rf'^\./proofs/{function}/Answers\.antt:\d+:\d+: error: `([^`]+)`: `goal\.\1`: module ', said, re.M)
-        left = [re.search(r'\(`([^`]+)`\)', message) for place, _, message in edits.errors(said) if edits.in_function(function, crate, place, '')]
-        left = [name[1] for name in left if name]
-        if not lost or len(lost) != len(left):
-            continue
-        names = dict(zip(lost, left))
-        for old, new in zip(lost, left):
+    for function in dict.fromkeys(name for name, _ in edits.LOST.findall(said)):
+        answers = crate / 'proofs' / function / 'Answers.antt'
+        lost = [goal for name, goal in edits.LOST.findall(said) if name == function]
+        names = pairs(lost, edits.open_goals(said, function, crate))
+        for old, new in list(names.items()):
             steps = [re.search(r'-(?:then|else)-(.*)', name) for name in (old, new)]
             if all(steps):
                 names[f'if-{steps[0][1]}'] = f'if-{steps[1][1]}'
-        made[answers.relative_to(crate)] = re.sub(r"[^\s(){}\[\].,;]+", lambda word: names.get(word[0], word[0]), text)
+        if names:
+            made[answers.relative_to(crate)] = re.sub(r"[^\s(){}\[\].,;]+", lambda word: names.get(word[0], word[0]), answers.read_text())
     return made
 
 
@@ -98,14 +112,14 @@ def tried(edit, room):
             (crate / file).write_text(text)
 
 
-def main(ci_log, logs):
+def main(ci_log, logs, every):
     said = dict(re.findall(r'^rt: must-fail (\S+)\.edit: refused, as it must be: (.*)', pathlib.Path(ci_log).read_text(errors='replace'), re.M))
     shutil.rmtree(logs, ignore_errors=True)
     rooms, whole = Queue(), []
     for edit in sorted(CRATES.glob('*/must-fail/*.edit')):
         name = f'{edit.parts[-3]}/{edit.stem}'
         (logs / name).mkdir(parents=True)
-        if wants_all(edit, said.get(name, '')):
+        if every or wants_all(edit, said.get(name, '')):
             whole.append((edit, logs / name / '.log'))
         else:
             (logs / name / '.log').write_text(said.get(name, '') + '\n')
@@ -130,4 +144,4 @@ def main(ci_log, logs):
 
 
 if __name__ == '__main__':
-    main(sys.argv[1], pathlib.Path(sys.argv[2]))
+    main(sys.argv[1], pathlib.Path(sys.argv[2]), '--all' in sys.argv)

@@ -3,7 +3,7 @@
 fails where an edit has no log, or was refused only because a proof no longer fits the code's shape: that shows nothing of what the edit gets
 wrong, since a right change of the same shape would be refused as well. A kind that is not listed here fails too: somebody has to look at it.
 A goal is named after the code, so that an edit may take one away, with nothing left to show there: its answer is then refused for its name alone, and that is no
-error of the edit's. Where a goal is left open beside it, it is one: the answer may be that goal's.
+error of the edit's. Where a goal is left open that may be the answer's, under another name, it is one.
 An edit may get several functions wrong, each by itself: then every function whose code it changes must be refused at a fact, by an error of its
 own. A function that calls one that is refused is left unproved too, which shows nothing of it. It may get several promises wrong: then of each that
 it changes the theorem must be refused, in the same way.
@@ -31,20 +31,28 @@ KINDS = [
 FACTS = dict(KINDS[1:])
 WORDS = ('`search`', '`omega`', '`cc`', '`rw`', '`simp`')
 
-
+# An answer is refused since its function has no goal of its name.
 LOST = re.compile(r'^\./proofs/(\w+)/Answers\.antt:\d+:\d+: error: `([^`]+)`: `goal\.\2`: module .*', re.M)
 
 
 def open_goals(log, function, crate):
     """The goals of a function that are left open without an answer that is refused."""
     noted = re.findall(r'^note: (\S+:\d+:\d+): it is not proved that .*\(`([^`]+)`\)', log, re.M)
-    noted += [(f'/proofs/{function}/', goal) for goals in re.findall(rf'^fn \w+::{function}: no proof: .*`search` did not prove (.*)', log, re.M) for goal in re.findall(r'`([^`]+)`', goals.split(';')[0])]
     return list(dict.fromkeys(goal for place, goal in noted if in_function(function, crate, place, '')))
 
 
+def head(goal):
+    """What a goal's name says up to its last test."""
+    return re.match(r'(?:.*-(?:then|else)-)?', goal)[0]
+
+
 def without_lost(log, crate):
-    """A log without the answers whose goals are gone, where no goal of the function is left open."""
-    return LOST.sub(lambda lost: lost[0] if open_goals(log, lost[1], crate) else '', log)
+    """A log without the answers whose goals are gone: those beside which the function has no open goal that may be theirs. No note of the function's open goals counts
+    then either, since it may be for want of one."""
+    functions = {function for function, _ in LOST.findall(log)}
+    kept = LOST.sub(lambda lost: lost[0] if head(lost[2]) in map(head, open_goals(log, lost[1], crate)) else '', log)
+    noted = r'^note: (\S+:\d+:\d+): it is not proved that .*'
+    return re.sub(noted, lambda note: '' if any(in_function(function, crate, note[1], '') for function in functions) else note[0], kept, flags=re.M)
 
 
 def errors(log):
@@ -174,15 +182,17 @@ def bad(found):
 def can_fail():
     """Made-up logs: those that show nothing are named, the others are not."""
     F, G = ('/x/proofs/%s/Proof.antt:1:1: error: `x`: ' % function for function in 'fg')
+    GONE = './proofs/f/Answers.antt:1:1: error: `r-then-a`: `goal.r-then-a`: module `f.Goals` has no `r-then-a`\n'
     ONE, TWO = ('/x/proofs/Laws.antt:1:1: error: `%s`: ' % theorem for theorem in ('one', 'two'))
     samples = {
         'fact': '/p: error: `returns`: `search`: no proof of `a has no field `\n  was found.\n',
         'own_proof': 'fn a: proved\nnote: /src/lib.rt:1:1: it is not proved that what the function ensures holds (`returns`)\n',
         'later_shape': '/p: error: `x`: `omega`: it fails\n/p: error: `y`: record `lts.T` has no field `if1`\n',
         'no_field': '/p: error: `x`: record `lts.T` has no field `if1`\n/p: error: `y`: `omega`: it fails\n',
-        'goal_gone': './proofs/f/Answers.antt:1:1: error: `x-2`: `goal.x-2`: module `f.Goals` has no `x-2`\n/p: error: `y`: `omega`: it fails\n',
-        'goal_renamed': './proofs/f/Answers.antt:1:1: error: `x-2`: `goal.x-2`: module `f.Goals` has no `x-2`\nnote: src/lib.rt:4:5: it is not proved that it returns (`x-3`)\n',
-        'goal_gone_alone': './proofs/f/Answers.antt:1:1: error: `x-2`: `goal.x-2`: module `f.Goals` has no `x-2`\nfn c::f: not proved\n',
+        'goal_gone': f'{GONE}/p: error: `y`: `omega`: it fails\n',
+        'goal_gone_alone': f'{GONE}fn c::f: not proved\n',
+        'goal_gone_and_one_open': f'{GONE}note: src/lib.rt:4:5: it is not proved that it holds (`g-requires`)\n',
+        'goal_renamed': f'{GONE}note: src/lib.rt:4:5: it is not proved that it returns (`r-then-b`)\n/p: error: `y`: `omega`: it fails\n',
         'no_need': '/p: error: `x`: `tie` has no `Need-returns-2`\n',
         'follows': '/p: error: `x`: `close` was not admitted, so\nnote: /src/lib.rt:1:1: it is not proved that it returns\n',
         'follows_shape': '/p: error: `x`: `close` was not admitted, so\n/p: error: `y`: `tie` has no `Need-returns-2`\n',
@@ -232,8 +242,8 @@ def can_fail():
                 (logs / 'c' / name).mkdir(parents=True)
                 (logs / 'c' / name / '.log').write_text(log)
         named = [line.split(':')[0] for line in bad(read(crates, logs))]
-    if named != ['c/agree_no_law', 'c/agree_not', 'c/follows_shape', 'c/goal_gone_alone', 'c/goal_renamed', 'c/lost', 'c/no_field', 'c/no_need', 'c/noted_elsewhere', 'c/one_of_two',
-                 'c/only_follows', 'c/other', 'c/promises_follow', 'c/promises_other', 'c/promises_shape', 'c/promises_unproved', 'c/proof', 'c/second_follows', 'c/second_other',
+    if named != ['c/agree_no_law', 'c/agree_not', 'c/follows_shape', 'c/goal_gone_alone', 'c/goal_gone_and_one_open', 'c/goal_renamed', 'c/lost', 'c/no_field',
+                 'c/no_need', 'c/noted_elsewhere', 'c/one_of_two', 'c/only_follows', 'c/other', 'c/promises_follow', 'c/promises_other', 'c/promises_shape', 'c/promises_unproved', 'c/proof', 'c/second_follows', 'c/second_other',
                  'c/second_shape', 'c/silent']:
         sys.exit(f'edits.py: of the made-up logs these are refused: {named}')
 

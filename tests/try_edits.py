@@ -1,11 +1,11 @@
 #!/usr/bin/env python3
 """Writes what the prover says of each must-fail edit to LOGS/CRATE/EDIT/.log, for tests/edits.py. rt ci tells of an edit the first error that is no name that a
-proof file does not find, cut after 160 letters. Where that is an error in a proof that is at a fact, it is all that an edit of one function needs. Any other is tried
-here once more, by `rt check` in a copy of the repository as rt ci left it: one that gets several functions or promises wrong, or a definition and its code
-together, since every error counts, and one whose line does not say enough.
+proof file does not find, cut after 160 letters. Where that is an error in a proof that is at a fact, it is all that an edit of one definition needs, since no name
+comes from a definition's text. Any other is tried here once more, by `rt check` in a copy of the repository as rt ci left it: one that changes code, whose
+goals are named after it, one that gets several promises wrong, since every error counts, and one whose line does not say enough.
 
 try_edits.py RT_CI_LOG LOGS
-try_edits.py RT_CI_LOG LOGS --all    tries all of them once more: rt ci's line leaves out answers that are refused for a goal's name"""
+try_edits.py RT_CI_LOG LOGS --all    tries all of them once more"""
 import os, pathlib, re, shutil, subprocess, sys, tempfile
 sys.dont_write_bytecode = True
 from concurrent.futures import ThreadPoolExecutor
@@ -21,11 +21,10 @@ CRATES = ROOT / 'crates'
 def wants_all(edit, said):
     """Whether more counts than what rt ci said of an edit."""
     text, crate = edit.read_text(), edit.parent.parent
-    folders = edits.parts(text)
     error = next(iter(edits.errors(said + '\n')), None)
     if not error or said.startswith('note:') or edits.kind(error[2]) not in edits.FACTS:
         return True
-    return {'src', 'specs'} <= folders or len(edits.changed(text, crate)) > 1 or len(edits.promises(text, crate)) > 1
+    return 'src' in edits.parts(text) or len(edits.promises(text, crate)) > 1
 
 
 def linked(one, other):
@@ -57,15 +56,10 @@ def texts(edit, crate):
     return made
 
 
-def head(goal):
-    """What a goal's name says up to its last test."""
-    return re.match(r'(?:.*-(?:then|else)-)?', goal)[0]
-
-
 def pairs(lost, left):
     """Which of the goals that are left open each lost answer is of: one whose name says the same up to the last test, and the likest there."""
     found = {}
-    alike = sorted(((SequenceMatcher(None, old, new).ratio(), old, new) for old in lost for new in left if head(old) == head(new)), reverse=True)
+    alike = sorted(((SequenceMatcher(None, old, new).ratio(), old, new) for old in lost for new in left if edits.head(old) == edits.head(new)), reverse=True)
     for _, old, new in alike:
         if old not in found and new not in found.values():
             found[old] = new

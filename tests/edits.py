@@ -2,8 +2,6 @@
 """What each must-fail edit was refused at. Reads the first error of every log that tests/try_edits.py writes, prints how many there are of each kind, and
 fails where an edit has no log, or was refused only because a proof no longer fits the code's shape: that shows nothing of what the edit gets
 wrong, since a right change of the same shape would be refused as well. A kind that is not listed here fails too: somebody has to look at it.
-A goal is named after the code, so that an edit may take one away, with nothing left to show there: its answer is then refused for its name alone, and that is no
-error of the edit's. Where a goal is left open that may be the answer's, under another name, it is one.
 An edit may get several functions wrong, each by itself: then every function whose code it changes must be refused at a fact, by an error of its
 own. A function that calls one that is refused is left unproved too, which shows nothing of it. It may get several promises wrong: then of each that
 it changes the theorem must be refused, in the same way.
@@ -31,29 +29,6 @@ KINDS = [
 FACTS = dict(KINDS[1:])
 WORDS = ('`search`', '`omega`', '`cc`', '`rw`', '`simp`')
 
-# An answer is refused since its function has no goal of its name.
-LOST = re.compile(r'^\./proofs/(\w+)/Answers\.antt:\d+:\d+: error: `([^`]+)`: `goal\.\2`: module .*', re.M)
-
-
-def open_goals(log, function, crate):
-    """The goals of a function that are left open without an answer that is refused."""
-    noted = re.findall(r'^note: (\S+:\d+:\d+): it is not proved that .*\(`([^`]+)`\)', log, re.M)
-    return list(dict.fromkeys(goal for place, goal in noted if in_function(function, crate, place, '')))
-
-
-def head(goal):
-    """What a goal's name says up to its last test."""
-    return re.match(r'(?:.*-(?:then|else)-)?', goal)[0]
-
-
-def without_lost(log, crate):
-    """A log without the answers whose goals are gone: those beside which the function has no open goal that may be theirs. No note of the function's open goals counts
-    then either, since it may be for want of one."""
-    functions = {function for function, _ in LOST.findall(log)}
-    kept = LOST.sub(lambda lost: lost[0] if head(lost[2]) in map(head, open_goals(log, lost[1], crate)) else '', log)
-    noted = r'^note: (\S+:\d+:\d+): it is not proved that .*'
-    return re.sub(noted, lambda note: '' if any(in_function(function, crate, note[1], '') for function in functions) else note[0], kept, flags=re.M)
-
 
 def errors(log):
     """(place, what is declared there, error) of each error that does not only follow from another, and then, for those in a proof of the prover's own, of
@@ -61,7 +36,7 @@ def errors(log):
     said = re.findall(r'^(\S+): error: (?:`([^`]*)`: )?(.*(?:\n[ \t].*)*)', log, re.M)
     notes = re.findall(r'^note: (\S+:\d+:\d+): ()(.*)', log, re.M)
     notes += [(f'/proofs/{function}/', '', f'it is not proved that {goals} hold') for function, goals in re.findall(r'^fn \w+::(\w+): no proof: .*`search` did not prove (.*)', log, re.M)]
-    return [error for error in said if not re.match(r'`[^`]*` was not admitted|\d+ declarations? that depend|this file exports no', error[2])] + notes
+    return [error for error in said if not re.match(r'`[^`]*` was not admitted|\d+ declarations? that depend', error[2])] + notes
 
 
 def heads(source):
@@ -150,10 +125,10 @@ def read(crates, logs):
     for edit in sorted(crates.glob('*/must-fail/*.edit')):
         name = f'{edit.parts[-3]}/{edit.stem}'
         log = logs / name / '.log'
+        said = log.read_text(errors='replace') if log.is_file() else ''
+        error = next(iter(errors(said)), None)
         changes = edit.read_text()
         crate = edit.parent.parent
-        said = without_lost(log.read_text(errors='replace'), crate) if log.is_file() else ''
-        error = next(iter(errors(said)), None)
         folders = parts(changes)
         both = {'src', 'specs'} <= folders
         functions = [] if both else changed(changes, crate)
@@ -182,21 +157,18 @@ def bad(found):
 def can_fail():
     """Made-up logs: those that show nothing are named, the others are not."""
     F, G = ('/x/proofs/%s/Proof.antt:1:1: error: `x`: ' % function for function in 'fg')
-    GONE = './proofs/f/Answers.antt:1:1: error: `r-then-a`: `goal.r-then-a`: module `f.Goals` has no `r-then-a`\n'
     ONE, TWO = ('/x/proofs/Laws.antt:1:1: error: `%s`: ' % theorem for theorem in ('one', 'two'))
     samples = {
         'fact': '/p: error: `returns`: `search`: no proof of `a has no field `\n  was found.\n',
         'own_proof': 'fn a: proved\nnote: /src/lib.rt:1:1: it is not proved that what the function ensures holds (`returns`)\n',
         'later_shape': '/p: error: `x`: `omega`: it fails\n/p: error: `y`: record `lts.T` has no field `if1`\n',
         'no_field': '/p: error: `x`: record `lts.T` has no field `if1`\n/p: error: `y`: `omega`: it fails\n',
-        'goal_gone': f'{GONE}/p: error: `y`: `omega`: it fails\n',
-        'goal_gone_alone': f'{GONE}fn c::f: not proved\n',
-        'goal_gone_and_one_open': f'{GONE}note: src/lib.rt:4:5: it is not proved that it holds (`g-requires`)\n',
-        'goal_renamed': f'{GONE}note: src/lib.rt:4:5: it is not proved that it returns (`r-then-b`)\n/p: error: `y`: `omega`: it fails\n',
+        'goal_renamed': './proofs/f/Answers.antt:1:1: error: `r-then-a`: `goal.r-then-a`: module `f.Goals` has no `r-then-a`\n/p: error: `y`: `omega`: it fails\n',
         'no_need': '/p: error: `x`: `tie` has no `Need-returns-2`\n',
         'follows': '/p: error: `x`: `close` was not admitted, so\nnote: /src/lib.rt:1:1: it is not proved that it returns\n',
         'follows_shape': '/p: error: `x`: `close` was not admitted, so\n/p: error: `y`: `tie` has no `Need-returns-2`\n',
-        'only_follows': '/p: error: 1 declaration that depends on `close`, which was not admitted, was not checked: x\n',
+        'only_follows': '/p: error: `x`: `close` was not admitted, so\n',
+        'only_depends': '/p: error: 1 declaration that depends on `close`, which was not admitted, was not checked: x\n',
         'other': '/p: error: `x`: something else\n',
         'silent': 'fn a: proved\n',
         'one_of_two': f'{F}`omega`: it fails\n{G}`omega`: it fails\nfn c::f: proved\nfn c::g: not proved\n',
@@ -242,8 +214,8 @@ def can_fail():
                 (logs / 'c' / name).mkdir(parents=True)
                 (logs / 'c' / name / '.log').write_text(log)
         named = [line.split(':')[0] for line in bad(read(crates, logs))]
-    if named != ['c/agree_no_law', 'c/agree_not', 'c/follows_shape', 'c/goal_gone_alone', 'c/goal_gone_and_one_open', 'c/goal_renamed', 'c/lost', 'c/no_field',
-                 'c/no_need', 'c/noted_elsewhere', 'c/one_of_two', 'c/only_follows', 'c/other', 'c/promises_follow', 'c/promises_other', 'c/promises_shape', 'c/promises_unproved', 'c/proof', 'c/second_follows', 'c/second_other',
+    if named != ['c/agree_no_law', 'c/agree_not', 'c/follows_shape', 'c/goal_renamed', 'c/lost', 'c/no_field', 'c/no_need', 'c/noted_elsewhere', 'c/one_of_two', 'c/only_depends',
+                 'c/only_follows', 'c/other', 'c/promises_follow', 'c/promises_other', 'c/promises_shape', 'c/promises_unproved', 'c/proof', 'c/second_follows', 'c/second_other',
                  'c/second_shape', 'c/silent']:
         sys.exit(f'edits.py: of the made-up logs these are refused: {named}')
 

@@ -6,10 +6,9 @@ goals are named after it, one that gets several promises wrong, since every erro
 
 try_edits.py RT_CI_LOG LOGS
 try_edits.py RT_CI_LOG LOGS --all    tries all of them once more"""
-import os, pathlib, re, shutil, subprocess, sys, tempfile
+import json, os, pathlib, re, shutil, subprocess, sys, tempfile
 sys.dont_write_bytecode = True
 from concurrent.futures import ThreadPoolExecutor
-from difflib import SequenceMatcher
 from queue import Queue
 
 import edits
@@ -56,51 +55,46 @@ def texts(edit, crate):
     return made
 
 
-def pairs(lost, left):
-    """Which of the goals that are left open each lost answer is of: one whose name says the same up to the last test, and the likest there."""
-    found = {}
-    alike = sorted(((SequenceMatcher(None, old, new).ratio(), old, new) for old in lost for new in left if edits.head(old) == edits.head(new)), reverse=True)
-    for _, old, new in alike:
-        if old not in found and new not in found.values():
-            found[old] = new
-    return found
+def names(crate, folder):
+    """The names of each function's goals and steps, each by its place: its number among those of its kind, which no change of an operand moves."""
+    shutil.rmtree(folder, ignore_errors=True)
+    subprocess.run(['rt', 'check', '--jobs', '1', '--generated', str(folder), '--old-names'], cwd=crate, stdin=subprocess.DEVNULL, stdout=subprocess.DEVNULL, stderr=subprocess.DEVNULL)
+    file = folder / 'names.json'
+    told = json.loads(file.read_text()) if file.is_file() else {}
+    return {
+        module.split('.')[-2]: {('goal', place): name for place, name in said['needs']} | {('step', place): name for _, _, (place, name), *_ in said['places']}
+        for module, said in told.items() if 'needs' in said
+    }
 
 
-def renamed(said, crate):
-    """The answers of the functions in which an edit renames goals, under the new names. A goal is named after the code, so a changed test may rename one, and its
-    answer is lost: only under the goal's new name does it show whether what it says still follows."""
+def renamed(before, after, crate):
+    """The answers of the functions in which an edit renames goals or steps, under the new names. These come from the code, so a changed test may rename one, or give its
+    name to another: only under the name of the same place does an answer show whether what it says still follows. Where a place is gone, the answers stay, and are refused."""
     made = {}
-    for function in dict.fromkeys(name for name, _ in edits.LOST.findall(said)):
+    for function, was in before.items():
+        now = after.get(function, {})
         answers = crate / 'proofs' / function / 'Answers.antt'
-        lost = [goal for name, goal in edits.LOST.findall(said) if name == function]
-        names = pairs(lost, edits.open_goals(said, function, crate))
-        for old, new in list(names.items()):
-            steps = [re.search(r'-(?:then|else)-(.*)', name) for name in (old, new)]
-            if all(steps):
-                names[f'if-{steps[0][1]}'] = f'if-{steps[1][1]}'
-        if names:
-            made[answers.relative_to(crate)] = re.sub(r"[^\s(){}\[\].,;]+", lambda word: names.get(word[0], word[0]), answers.read_text())
+        if was != now and was.keys() <= now.keys() and answers.is_file():
+            new = {name: now[place] for place, name in was.items() if name}
+            made[answers.relative_to(crate)] = re.sub(r"[^\s(){}\[\].,;]+", lambda word: new.get(word[0], word[0]), answers.read_text())
     return made
 
 
-def check(crate):
-    return subprocess.run(['rt', 'check', '--jobs', '1'], cwd=crate, stdin=subprocess.DEVNULL, stdout=subprocess.PIPE, stderr=subprocess.STDOUT).stdout.decode(errors='replace')
-
-
-def tried(edit, room):
+def tried(edit, room, known):
     """What rt check says of a crate with this edit."""
     crate = room / 'crates' / edit.parts[-3]
     changed = texts(edit, crate)
+    code = any(file.startswith('src/') for file in changed)
+    if code and crate.name not in known:
+        known[crate.name] = names(crate, room / 'names')
     before = {file: (crate / file).read_text() for file in changed}
     try:
         for file, text in changed.items():
             (crate / file).write_text(text)
-        said = check(crate)
-        moved = renamed(said, crate)
-        before.update({file: (crate / file).read_text() for file in moved if file not in before})
-        for file, text in moved.items():
+        for file, text in (renamed(known[crate.name], names(crate, room / 'names'), crate) if code else {}).items():
+            before.setdefault(file, (crate / file).read_text())
             (crate / file).write_text(text)
-        return check(crate) if moved else said
+        return subprocess.run(['rt', 'check', '--jobs', '1'], cwd=crate, stdin=subprocess.DEVNULL, stdout=subprocess.PIPE, stderr=subprocess.STDOUT).stdout.decode(errors='replace')
     finally:
         for file, text in before.items():
             (crate / file).write_text(text)
@@ -109,7 +103,7 @@ def tried(edit, room):
 def main(ci_log, logs, every):
     said = dict(re.findall(r'^rt: must-fail (\S+)\.edit: refused, as it must be: (.*)', pathlib.Path(ci_log).read_text(errors='replace'), re.M))
     shutil.rmtree(logs, ignore_errors=True)
-    rooms, whole = Queue(), []
+    rooms, whole, known = Queue(), [], {}
     for edit in sorted(CRATES.glob('*/must-fail/*.edit')):
         name = f'{edit.parts[-3]}/{edit.stem}'
         (logs / name).mkdir(parents=True)
@@ -121,7 +115,7 @@ def main(ci_log, logs, every):
     def work(task):
         room = rooms.get()
         try:
-            task[1].write_text(tried(task[0], room))
+            task[1].write_text(tried(task[0], room, known))
         finally:
             rooms.put(room)
 

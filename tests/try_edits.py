@@ -56,26 +56,56 @@ def texts(edit, crate):
 
 
 def names(crate, folder):
-    """The names of each function's goals and steps, each by its place: its number among those of its kind, which no change of an operand moves."""
+    """Of each function the goals, each with its kind, as they come in the code, and the steps, each by its place."""
     shutil.rmtree(folder, ignore_errors=True)
     subprocess.run(['rt', 'check', '--jobs', '1', '--generated', str(folder), '--old-names'], cwd=crate, stdin=subprocess.DEVNULL, stdout=subprocess.DEVNULL, stderr=subprocess.DEVNULL)
     file = folder / 'names.json'
     told = json.loads(file.read_text()) if file.is_file() else {}
+    # A place is a kind and a number, or a temporary's, behind it.
     return {
-        module.split('.')[-2]: {('goal', place): name for place, name in said['needs']} | {('step', place): name for _, _, (place, name), *_ in said['places']}
+        module.split('.')[-2]: ([(re.sub(r'(-t\d+)?(-\d+)?$', '', place), name) for place, name in said['needs']], dict(step for _, _, step, *_ in said['places']))
         for module, said in told.items() if 'needs' in said
     }
 
 
+def by_kind(goals):
+    kinds = {}
+    for kind, name in goals:
+        kinds.setdefault(kind, []).append(name)
+    return kinds
+
+
+def own(was, now):
+    """The name that each goal has after an edit. A name comes from the code, so a changed test may rename a goal, or give its name to another: where a function has as many
+    goals of a kind as before, they are the same, one after the other. Where it has more or fewer, a goal that has lost its name gets one that no goal has, so that its
+    answer is refused for that."""
+    new, after = {}, by_kind(now)
+    for kind, before in by_kind(was).items():
+        here = after.get(kind, [])
+        new.update(zip(before, here) if len(before) == len(here) else ((name, name if name in here else f'{name}-gone') for name in before))
+    return new
+
+
+def can_tell():
+    """Made-up goals: one renamed, names handed on, and more of a kind, of which one has lost its name."""
+    samples = (
+        ([('returns', 'x-ne8'), ('returns', 'r')], [('returns', 'x-lt8'), ('returns', 'r')], {'x-ne8': 'x-lt8', 'r': 'r'}),
+        ([('cast', 'pairs'), ('cast', 'pairs-2')], [('cast', 'block'), ('cast', 'pairs')], {'pairs': 'block', 'pairs-2': 'pairs'}),
+        ([('returns', 'x-ne8'), ('returns', 'r')], [('returns', 'y'), ('returns', 'x-lt8'), ('returns', 'r')], {'x-ne8': 'x-ne8-gone', 'r': 'r'}),
+    )
+    for was, now, names_then in samples:
+        if own(was, now) != names_then:
+            sys.exit(f'try_edits.py: of the made-up goals {was} and {now} the names are {own(was, now)}')
+
+
 def renamed(before, after, crate):
-    """The answers of the functions in which an edit renames goals or steps, under the new names. These come from the code, so a changed test may rename one, or give its
-    name to another: only under the name of the same place does an answer show whether what it says still follows. Where a place is gone, the answers stay, and are refused."""
+    """The answers of the functions in which an edit renames goals or steps, under the new names, so that each is tried at its own goal."""
     made = {}
-    for function, was in before.items():
-        now = after.get(function, {})
+    for function, (goals, steps) in before.items():
+        goals_now, steps_now = after.get(function, ([], {}))
         answers = crate / 'proofs' / function / 'Answers.antt'
-        if was != now and was.keys() <= now.keys() and answers.is_file():
-            new = {name: now[place] for place, name in was.items() if name}
+        if (goals, steps) != (goals_now, steps_now) and answers.is_file():
+            new = {name: steps_now.get(place, name) for place, name in steps.items() if name} | own(goals, goals_now)
             made[answers.relative_to(crate)] = re.sub(r"[^\s(){}\[\].,;]+", lambda word: new.get(word[0], word[0]), answers.read_text())
     return made
 
@@ -132,4 +162,5 @@ def main(ci_log, logs, every):
 
 
 if __name__ == '__main__':
+    can_tell()
     main(sys.argv[1], pathlib.Path(sys.argv[2]), '--all' in sys.argv)

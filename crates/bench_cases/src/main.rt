@@ -33,6 +33,7 @@ fn fail<W: Write>(path: &[u8], error: Error, errors: &mut W) {
     let _ = errors.write_all(b"\n");
 }
 
+// Runs the events of one file. A write that fails is passed over, as the bench does.
 fn one_file(rt: &HostRuntime, i: usize) -> bool {
     let mut name = [0u8; 4096];
     let n = rt.arg(i, &mut name).unwrap_or(0);

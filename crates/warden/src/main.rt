@@ -17,6 +17,7 @@ struct Window {
     go: bool,
 }
 
+// A write that fails is passed over, here and below: the lines behind it are answered all the same.
 fn answer<W: Write>(writer: &mut W, line: &[u8], number: u64, skipping: bool, text: &mut [u8])
     requires { 65536 ≤ length text.old }
 {

@@ -32,7 +32,7 @@ pub fn take_input<R: Read>(reader: &mut R, input: &mut [u8]) -> Taken
     Taken { have, whole: true }
 }
 
-// Says that a read failed.
+// Says that a read failed; where that cannot be written either, nothing is left to say it on.
 pub fn say_unreadable<W: Write>(to: &mut W) {
     let _ = to.write_all(b"the input cannot be read\n");
 }

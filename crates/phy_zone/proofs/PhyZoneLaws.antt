@@ -41,11 +41,10 @@ pub ruleset soundness = (sound_high, sound_outside, sound_inside)
 
 -- ---- the loop that judges every descriptor: those before i are sound
 pub record Judged (w : ℕ) (request : List ℕ) (k i : ℕ) : Type 0 where
-  pub within : i ≤ k
   pub rest : all_sound w request 0 k ≡ all_sound w request i (k - i)
 
 pub judged_start : (w : ℕ) (request : List ℕ) (k : ℕ) → Judged w request k 0
-judged_start w request k = record { within = omega arith; rest = rw (sub-zero k) }
+judged_start w request k = record { rest = rw (sub-zero k) }
 
 module _ (w : ℕ) (request : List ℕ) (k i : ℕ) (v : Bool) (h : i < k) (e : v ≡ sound w (first request i) (group request i)) (j : Judged w request k i) where
   pub judged_off : not v ≡ true → false ≡ all_sound w request 0 k
@@ -54,30 +53,25 @@ module _ (w : ℕ) (request : List ℕ) (k i : ℕ) (v : Bool) (h : i < k) (e : 
 
   pub judged_again : not v ≡ false → Judged w request k (i + 1)
   unfolding all_sound
-  judged_again t = record { within = omega arith; rest = j.rest ∙ rw (left k i h, ← e, not-false v t, add-one i) }
+  judged_again t = record { rest = j.rest ∙ rw (left k i h, ← e, not-false v t, add-one i) }
 
 pub judged_end : (w : ℕ) (request : List ℕ) (k i : ℕ) → k ≤ i → Judged w request k i → true ≡ all_sound w request 0 k
 unfolding all_sound
-judged_end w request k i h j =
-    let l = j.within in
-    let z : k - i ≡ 0 = omega arith in
-    sym (j.rest ∙ rw z)
+judged_end w request k i h j = let z : k - i ≡ 0 = omega arith in sym (j.rest ∙ rw z)
 
 -- ---- the loop that writes the records: what is left, done to the table as it is, is the whole, done to the table handed in
 pub record Written (phys₀ request : List ℕ) (start k : ℕ) (phys : List ℕ) (i : ℕ) : Type 0 where
-  pub within : i ≤ k
   pub same : length phys ≡ length phys₀
   pub rest : configured phys₀ request start 0 k ≡ configured phys request start i (k - i)
 
 pub written_start : (phys request : List ℕ) (start k : ℕ) → Written phys request start k phys 0
-written_start phys request start k = record { within = omega arith; same = refl; rest = rw (sub-zero k) }
+written_start phys request start k = record { same = refl; rest = rw (sub-zero k) }
 
 pub written_again : (phys₀ request : List ℕ) (start k : ℕ) (phys : List ℕ) (i : ℕ) (phys₁ : List ℕ) → i < k
     → phys₁ ≡ zoned phys (start + i) (first request i) (group request i)
     → Written phys₀ request start k phys i → Written phys₀ request start k phys₁ (i + 1)
 unfolding configured
 written_again phys₀ request start k phys i phys₁ h e w = record {
-  within = omega arith;
   same = ap length e ∙ length-zoned phys (start + i) (first request i) (group request i) ∙ w.same;
   rest = w.rest ∙ rw (left k i h, e, add-one i);
 }
@@ -85,10 +79,7 @@ written_again phys₀ request start k phys i phys₁ h e w = record {
 pub written_end : (phys₀ request : List ℕ) (start k : ℕ) (phys : List ℕ) (i : ℕ) → k ≤ i → Written phys₀ request start k phys i
     → phys ≡ configured phys₀ request start 0 k
 unfolding configured
-written_end phys₀ request start k phys i h w =
-    let l = w.within in
-    let z : k - i ≡ 0 = omega arith in
-    sym (w.rest ∙ rw z)
+written_end phys₀ request start k phys i h w = let z : k - i ≡ 0 = omega arith in sym (w.rest ∙ rw z)
 
 -- ---- what the written records hold
 pub length-configured : (phys request : List ℕ) (start i n : ℕ) → length (configured phys request start i n) ≡ length phys

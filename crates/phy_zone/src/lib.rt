@@ -31,13 +31,11 @@ fn all_sound(width: usize, request: &[u8], k: usize) -> bool
     requires { Width width × (8 + 2 * k ≤ length request.now) }
     ensures { result ≡ all_sound width request.now 0 k }
 {
-    let mut judged: usize = 0;
-    while judged < k {
+    for judged in 0..k {
         let at = 8 + 2 * judged;
         if !is_sound(width, request[at], request[at + 1]) {
             return false;
         }
-        judged += 1;
     }
     true
 }
@@ -83,8 +81,7 @@ fn configure(phys: &mut [u8], request: &[u8])
 {
     let start = request[6] % 128;
     let k = request[7];
-    let mut written: u8 = 0;
-    while written < k {
+    for written in 0..k {
         let at = 8 + 2 * (written as usize);
         tables::write_zone(
             phys,
@@ -92,7 +89,6 @@ fn configure(phys: &mut [u8], request: &[u8])
             request[at],
             request[at + 1],
         );
-        written += 1;
     }
 }
 

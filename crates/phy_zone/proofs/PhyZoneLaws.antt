@@ -176,28 +176,21 @@ configured-holds phys request start i (suc n) d l u t =
         )
     go (no ne) later = later (omega arith) (omega arith) (rw (length-zoned phys (start + i) (first request i) (group request i)) t)
 
--- ---- what the rule gives, with r the result that its checks answered
+-- ---- what the rule gives where its checks answer nothing
 module _ (w : ℕ) (phys permissions : List ℕ) (phy carried : ℕ) (request : List ℕ)
-    (r : ℕ) (e : r ≡ first_refusal (phy_zone_checks w phys permissions phy carried request)) where
-  -- where it is accepted, its descriptors and their phys are there
-  pub accepted_fits : r ≡ 0 → length phys ≤ 128 * phy_record → Fitting phys request
-  accepted_fits z m =
-      let k = clear (phy_zone_checks w phys permissions phy carried request) r e z tt in
+    (e : 0 ≡ first_refusal (phy_zone_checks w phys permissions phy carried request)) where
+  -- its descriptors and their phys are there
+  pub accepted_fits : length phys ≤ 128 * phy_record → Fitting phys request
+  accepted_fits m =
+      let k = clear (phy_zone_checks w phys permissions phy carried request) 0 e refl tt in
       record { head = omega arith; described = omega arith; there = omega arith; most = m }
 
-  pub configure_done : (response set phys₁ response₁ set₁ : List ℕ) → r ≡ 0
+  pub configure_done : (response set phys₁ response₁ set₁ : List ℕ)
       → phys₁ ≡ configured phys request (start_phy request) 0 (entries request)
-      → response₁ ≡ (0x41 ∷ 0x93 ∷ r ∷ 0 ∷ []) ++ drop 4 response
+      → response₁ ≡ (0x41 ∷ 0x93 ∷ 0x00 ∷ 0 ∷ []) ++ drop 4 response
       → set₁ ≡ ready_set phys ++ drop 16 set
-      → Leaves 0x93 (phy_zone_reply w phys permissions phy carried request) response set r 4 phys₁ permissions response₁ set₁
+      → Leaves 0x93 (phy_zone_reply w phys permissions phy carried request) response set 0x00 4 phys₁ permissions response₁ set₁
   unfolding phy_zone_reply
-  configure_done response set phys₁ response₁ set₁ z ep er es =
-      leaves_done 0x93 r _ e _ phys permissions response set response₁ set₁ 4 phys₁ permissions z
-      (record {
-        answered = z;
-        counted = refl;
-        phys_then = ep;
-        permissions_then = refl;
-        responded = er ∙ ap (λ (x : ℕ). (0x41 ∷ 0x93 ∷ x ∷ 0 ∷ []) ++ drop 4 response) z;
-        told = es;
-      })
+  configure_done response set phys₁ response₁ set₁ ep er es =
+      leaves_done 0x93 _ _ phys permissions response set 0x00 4 phys₁ permissions response₁ set₁ e
+      (record { answered = refl; counted = refl; phys_then = ep; permissions_then = refl; responded = er; told = es })

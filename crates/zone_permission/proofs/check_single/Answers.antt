@@ -1,21 +1,21 @@
--- `zone_permission::single_result` meets its contract.
+-- `zone_permission::check_single` meets its contract.
 use Rattle.tables.proofs.RefusalLaws.{rows}
-use Rattle.zone_permission.proofs.single_result.Goals as goal
+use Rattle.zone_permission.proofs.check_single.Goals as goal
 
-pub returns-then-request-ne12 : goal.returns-then-request-ne12
-returns-then-request-ne12 c = search rows depth 16
+pub returns-then-request-ne12-clause-number : goal.returns-then-request-ne12-clause-number
+returns-then-request-ne12-clause-number c = search rows depth 16
 
-pub returns-then-request-lt2 : goal.returns-then-request-lt2
-returns-then-request-lt2 c = search rows depth 16
+pub returns-then-request-lt2-clause-number : goal.returns-then-request-lt2-clause-number
+returns-then-request-lt2-clause-number c = search rows depth 16
 
-pub returns-then-request-lt2-2 : goal.returns-then-request-lt2-2
-returns-then-request-lt2-2 c = search rows depth 16
+pub returns-then-request-lt2-2-clause-number : goal.returns-then-request-lt2-2-clause-number
+returns-then-request-lt2-2-clause-number c = search rows depth 16
 
-pub returns-then-width-request : goal.returns-then-width-request
-returns-then-width-request c = search rows depth 16
+pub returns-then-width-request-clause-number : goal.returns-then-width-request-clause-number
+returns-then-width-request-clause-number c = search rows depth 16
 
-pub returns-then-width-request-2 : goal.returns-then-width-request-2
-returns-then-width-request-2 c = search rows depth 16
+pub returns-then-width-request-2-clause-number : goal.returns-then-width-request-2-clause-number
+returns-then-width-request-2-clause-number c = search rows depth 16
 
-pub returns : goal.returns
-returns c = search rows depth 16
+pub returns-clause-number : goal.returns-clause-number
+returns-clause-number c = search rows depth 16

@@ -9,7 +9,7 @@ use native.Mathlib.Decide.{ℕ_discrete}
 use native.Mathlib.Omega.{arith}
 use borrow.Author.Tests.{leb-true, eq-eqb, ne_eqb, not-true, not-false}
 use lib.Dec.{leb}
-use lib.ListN.{length, set, drop}
+use lib.ListN.{length, set, drop, replicate}
 use Rattle.wire.specs.Bits.{tab}
 use Rattle.wire.specs.declared.ZoneGroup.{ZoneGroup}
 use Rattle.wire.specs.declared.OutsideGroup.{OutsideGroup}
@@ -17,7 +17,6 @@ use Rattle.wire.specs.declared.OutsideGroup.TheVariants.{Group, NoGroup}
 use Rattle.wire.specs.Groups.{group_of, outside_group}
 use Rattle.wire.specs.PhySet.{tally, phys_in}
 use Rattle.wire.proofs.GroupLaws.{outside_number, taken_group, taken_none}
-use Rattle.wire.proofs.Loops.{Filled, fill_end}
 use Rattle.wire.proofs.Sets.{member-set_of, count_front, tally_le, tally-add}
 use Rattle.permit.specs.Permission.{permissions_sized, Width}
 use Rattle.permit.proofs.Laws.{table_sized}
@@ -121,10 +120,10 @@ count_most w phys permissions phy source e m h =
     (λ k l u. member-set_of _ k u ∙ sym (told_out w phys permissions phy source k e l))
 
 -- ---- the frame: zeros, and then two bytes
-pub frame_made : (number source : ℕ) (s₀ s : List ℕ) (k : ℕ) → 28 ≤ k → Filled (λ (i : ℕ). 0) 28 s₀ s k
+pub frame_made : (number source : ℕ) (s₀ s : List ℕ) → s ≡ replicate 28 0 ++ drop 28 s₀
     → set (set s 0 (number * 16 + 2)) 3 source ≡ frame_of number source ++ drop 28 s₀
 unfolding frame_of frame_byte tab
-frame_made number source s₀ s k h r = ap (λ (l : List ℕ). set (set l 0 (number * 16 + 2)) 3 source) (fill_end (λ (i : ℕ). 0) 28 s₀ s k h r)
+frame_made number source s₀ s e = ap (λ (l : List ℕ). set (set l 0 (number * 16 + 2)) 3 source) e
 
 -- ---- the calls' ends
 module _ (w : ℕ) (phys permissions : List ℕ) (phy source number : ℕ) (set frame : List ℕ) where

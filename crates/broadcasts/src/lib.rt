@@ -93,11 +93,7 @@ fn write_frame(number: u8, source: ZoneGroup, frame: &mut [u8])
     requires { (number < 8) × (28 ≤ length frame.old) }
     ensures { frame.new ≡ frame_of number source.0 ++ drop 28 frame.old }
 {
-    let mut k: usize = 0;
-    while k < 28 {
-        frame[k] = 0;
-        k += 1;
-    }
+    wire::clear(frame, 28);
     frame[0] = number * 16 + 2;
     frame[3] = source.0;
 }

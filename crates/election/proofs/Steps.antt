@@ -8,6 +8,9 @@ use native.Mathlib.Nat.{sub-zero}
 use native.Mathlib.Numerals.{add-one}
 use native.Mathlib.Omega.{arith}
 use borrow.Author.Tests.{lt-ltb, le-ltb, eq-eqb, ne_eqb, not-true, not-false}
+use Rattle.std.proofs.Common.{Ordering}
+use Rattle.std.proofs.lemmas.Bool.Decides.{nat_tests}
+use Rattle.std.specs.Ordering.{nat_cmp, ordering_then, ord_max}
 use Rattle.wire.specs.declared.ZoneGroup.{ZoneGroup}
 use Rattle.wire.specs.declared.OutsideGroup.{OutsideGroup}
 use Rattle.wire.specs.declared.OutsideGroup.TheVariants.{Group, NoGroup}
@@ -21,32 +24,21 @@ use Rattle.tables.proofs.RefusalLaws.{clear}
 use Rattle.tables.proofs.ArrivalLaws.{phys_records}
 use Rattle.election.specs.declared.Candidate.{Candidate}
 use Rattle.election.specs.Election.{fit, candidate, phy_candidate, phy_candidates, route_candidate, route_candidates, beats, better, best, nobody, elect_checks}
+use Rattle.election.proofs.ElectionLaws.{candidate-same}
 
 -- ---- `elect`: where nothing is refused, the phy table has 128 records at most
 pub elect_most : (phys routes : List ℕ) (r : ℕ) → r ≡ first_refusal (elect_checks phys routes) → r ≡ 0 → length phys ≤ 128 * phy_record
 elect_most phys routes r e z = (phys_records phys (not-false (phys_sized phys) (clear (elect_checks phys routes) r e z tt).0)).1
 
--- the better of b and the candidate of priority p and address a, as the functions are handed it
-abbrev pub better_of : Candidate → ℕ → ℕ → Candidate
-better_of b p a = better (record { priority = p; address = a }) b
+-- ---- `update`: the derived order is that of the candidates
+abbrev pub by_fields : Candidate → Candidate → Ordering
+by_fields c d = ordering_then (nat_cmp c.priority d.priority) (nat_cmp c.address d.address)
 
--- ---- `better`
-module _ (b : Candidate) (p a : ℕ) where
-  pub above : b.priority < p → record { priority = p; address = a } ≡ better (record { priority = p; address = a }) b
-  unfolding beats
-  above h = rw (lt-ltb _ _ h)
-
-  pub tie : p ≤ b.priority → b.priority ≡ p → b.address < a → record { priority = p; address = a } ≡ better (record { priority = p; address = a }) b
-  unfolding beats
-  tie l e h = rw (le-ltb _ _ l, eq-eqb _ _ e, lt-ltb _ _ h)
-
-  pub tie_less : p ≤ b.priority → b.priority ≡ p → a ≤ b.address → b ≡ better (record { priority = p; address = a }) b
-  unfolding beats
-  tie_less l e h = rw (le-ltb _ _ l, eq-eqb _ _ e, le-ltb _ _ h)
-
-  pub less : p ≤ b.priority → (b.priority ≡ p → ⊥) → b ≡ better (record { priority = p; address = a }) b
-  unfolding beats
-  less l e = rw (le-ltb _ _ l, ne_eqb _ _ e)
+pub greater : (b c : Candidate) → ord_max by_fields b c ≡ better c b
+unfolding beats
+greater b c =
+    let one : b.priority ≡ c.priority → b.address ≡ c.address → b ≡ c = candidate-same b c in
+    grind (arith, nat_tests)
 
 -- ---- `consider`
 pub no_address : (b : Candidate) (p a : ℕ) → 0 < p → a ≡ 0 → b ≡ best b (candidate (fit p a) p a)
@@ -60,8 +52,11 @@ stands b r p a h n e = rw (lt-ltb 0 p h, ne_eqb a 0 n) e
 
 -- ---- both steps: a record of a lower priority than b is not elected, whether it stands or not
 pub lower : (b : Candidate) (v : Bool) (q p a : ℕ) → q ≡ p → q < b.priority → b ≡ best b (candidate v p a)
-unfolding best
-lower b true q p a e h = less b p a (omega arith) (λ i. omega arith)
+unfolding best beats
+lower b true q p a e h =
+    let l : p ≤ b.priority = omega arith in
+    let n : b.priority ≡ p → ⊥ = λ i. omega arith in
+    rw (le-ltb _ _ l, ne_eqb _ _ n)
 lower b false q p a e h = refl
 
 -- nor is one of priority 0

@@ -11,8 +11,9 @@ ghost use Rattle.election.specs.Election.{elected_as, fit, candidate, phy_candid
 use tables::{PHY_RECORD, ROUTE_RECORD, WRONG_SIZE};
 use wire::{OutsideGroup, PhyNumber};
 
-// The best candidate so far. Two fields of one size: a gap between them would be copied at each step.
-#[derive(Clone, Copy)]
+// The best candidate so far. The order is that of the fields: higher priority wins, then the greater address. Two fields of one size: a gap
+// between them would be copied at each step.
+#[derive(Clone, Copy, Debug, PartialEq, Eq, PartialOrd, Ord)]
 pub struct Candidate {
     pub priority: u64,
     pub address: u64,
@@ -38,26 +39,11 @@ fn elect_refusal(phys: &[u8], routes: &[u8]) -> u8
     0
 }
 
-// The winner of b and the candidate of this priority and address.
-fn better(b: Candidate, priority: u64, address: u64) -> Candidate
-    ensures { result ≡ better (record { priority = priority; address = address }) b }
-{
-    if b.priority < priority {
-        return Candidate { priority, address };
-    }
-    if b.priority == priority {
-        if b.address < address {
-            return Candidate { priority, address };
-        }
-    }
-    b
-}
-
 // The best candidate so far, lent: it becomes the better of itself and a candidate.
 fn update(best: &mut Candidate, priority: u64, address: u64)
     ensures { best.new ≡ better (record { priority = priority; address = address }) best.old }
 {
-    *best = better(*best, priority, address);
+    *best = (*best).max(Candidate { priority, address });
 }
 
 // The same with plain parameters, so that what stands above it needs no walk by hand.
@@ -123,10 +109,8 @@ fn elect_phys(b: Candidate, phys: &[u8]) -> Candidate
 {
     let count = phys.len() / PHY_RECORD;
     let mut so_far = b;
-    let mut i: usize = 0;
-    while i < count {
+    for i in 0..count {
         so_far = with_phy(so_far, phys, PhyNumber(i as u8));
-        i += 1;
     }
     so_far
 }
@@ -137,10 +121,8 @@ fn elect_routes(b: Candidate, routes: &[u8]) -> Candidate
 {
     let count = routes.len() / ROUTE_RECORD;
     let mut so_far = b;
-    let mut i: usize = 0;
-    while i < count {
+    for i in 0..count {
         so_far = with_route(so_far, routes, i);
-        i += 1;
     }
     so_far
 }

@@ -8,12 +8,10 @@ use native.Mathlib.Nat.{sub-zero}
 use native.Mathlib.Numerals.{add-one}
 use native.Mathlib.Omega.{arith}
 use borrow.Author.Tests.{lt-ltb, le-ltb, eq-eqb, ne_eqb, not-true, not-false}
-use Rattle.std.proofs.Common.{Ordering}
+use Rattle.std.proofs.Common.{Ordering, Option, Some, None}
 use Rattle.std.proofs.lemmas.Bool.Decides.{nat_tests}
 use Rattle.std.specs.Ordering.{nat_cmp, ordering_then, ord_max}
 use Rattle.wire.specs.declared.ZoneGroup.{ZoneGroup}
-use Rattle.wire.specs.declared.OutsideGroup.{OutsideGroup}
-use Rattle.wire.specs.declared.OutsideGroup.TheVariants.{Group, NoGroup}
 use Rattle.wire.specs.Groups.{is_group}
 use Rattle.wire.proofs.Loops.{left}
 use lib.ListN.{length}
@@ -27,16 +25,16 @@ use Rattle.election.specs.Election.{fit, candidate, phy_candidate, phy_candidate
 use Rattle.election.proofs.ElectionLaws.{candidate-same}
 
 -- ---- `elect`: where nothing is refused, the phy table has 128 records at most
-pub elect_most : (phys routes : List ℕ) (r : ℕ) → r ≡ first_refusal (elect_checks phys routes) → r ≡ 0 → length phys ≤ 128 * phy_record
-elect_most phys routes r e z = (phys_records phys (not-false (phys_sized phys) (clear (elect_checks phys routes) r e z tt).0)).1
+pub elect_most : (phys routes : List ℕ) → 0 ≡ first_refusal (elect_checks phys routes) → length phys ≤ 128 * phy_record
+elect_most phys routes e = (phys_records phys (not-false (phys_sized phys) (clear (elect_checks phys routes) 0 e refl tt).0)).1
 
 -- ---- `update`: the derived order is that of the candidates
 abbrev pub by_fields : Candidate → Candidate → Ordering
 by_fields c d = ordering_then (nat_cmp c.priority d.priority) (nat_cmp c.address d.address)
 
-pub greater : (b c : Candidate) → ord_max by_fields b c ≡ better c b
+pub greater : (r b c : Candidate) → r ≡ ord_max by_fields b c → r ≡ better c b
 unfolding beats
-greater b c =
+greater r b c e =
     let one : b.priority ≡ c.priority → b.address ≡ c.address → b ≡ c = candidate-same b c in
     grind (arith, nat_tests)
 
@@ -76,11 +74,11 @@ pub phy_considered : (b r : Candidate) (k v : Bool) (q x p a : ℕ) → k ≡ v 
 phy_considered b r k v q x p a e h i j g = let t : k ≡ true = not-false k h in rw (← e, t, ← i, ← j) g
 
 -- ---- `with_route`, where o is what its group byte names
-pub no_group : (b : Candidate) (o m : OutsideGroup) (w : Bool) (p a : ℕ) → o ≡ m → o ≡ NoGroup → b ≡ best b (candidate (is_group m && w) p a)
+pub no_group : (b : Candidate) (o m : Option ZoneGroup) (w : Bool) (p a : ℕ) → o ≡ m → o ≡ None → b ≡ best b (candidate (is_group m && w) p a)
 unfolding best
 no_group b o m w p a e n = rw (← e, n)
 
-pub route_considered : (b r : Candidate) (o m : OutsideGroup) (g : ZoneGroup) (q x p a : ℕ) → o ≡ m → o ≡ Group g → q ≡ p → x ≡ a
+pub route_considered : (b r : Candidate) (o m : Option ZoneGroup) (g : ZoneGroup) (q x p a : ℕ) → o ≡ m → o ≡ Some g → q ≡ p → x ≡ a
     → r ≡ best b (candidate (fit q x) q x)
     → r ≡ best b (candidate (is_group m && fit p a) p a)
 route_considered b r o m g q x p a e s i j k = rw (← e, s, ← i, ← j) k

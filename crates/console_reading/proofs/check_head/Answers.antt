@@ -1,7 +1,7 @@
--- `console_reading::head_refusal` meets its contract.
+-- `console_reading::check_head` meets its contract.
 use Rattle.tables.proofs.RefusalLaws.{rows}
 use Rattle.console_reading.proofs.ReadLaws.{then_length, length-rows, length_short}
-use Rattle.console_reading.proofs.head_refusal.Goals as goal
+use Rattle.console_reading.proofs.check_head.Goals as goal
 
 pub returns-then-response-lt4 : goal.returns-then-response-lt4
 returns-then-response-lt4 c = search rows depth 16

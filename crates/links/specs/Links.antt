@@ -1,19 +1,18 @@
 -- Start-up, and "Links": a phy leaves the ready state, or IDENTIFY arrives.
-use Rattle.std.specs.Prelude.{Bool, true, false, cond, not, ◌&&◌, List, [], ◌∷◌, ◌++◌, ℕ, ◌+◌, ◌*◌, ◌/◌, ◌%◌, eqb, set}
+use Rattle.std.specs.Prelude.{Bool, true, false, cond, not, ◌&&◌, List, [], ◌∷◌, ◌++◌, ℕ, ◌+◌, ◌*◌, ◌/◌, ◌%◌, eqb, set, Result, ⊤}
 use Rattle.std.proofs.Math.Seq.{paste}
 use Rattle.wire.specs.Address.{address_at}
 use Rattle.tables.specs.Refusals.{Check, refuse, same, off, first_refusal}
-use Rattle.tables.specs.Outcome.{Answer, refusal, answer, Out, outcome}
+use Rattle.tables.specs.Outcome.{Answer, Out, outcome}
+use Rattle.tables.specs.Numbers.{answered}
+use Rattle.tables.specs.declared.refusal.Refusal.{Refusal}
 use Rattle.tables.specs.Phys.{phy_record, phy_byte, phy_address, known, zoned}
 use Rattle.tables.specs.Arrival.{arrival_checks}
 use Rattle.permit.specs.Permission.{permissions_sized, start_table}
-use Rattle.links.specs.declared.Linked.{Linked}
-use Rattle.links.specs.declared.Linked.TheVariants.{Refused, Done}
 
--- the answer in document 01's numbers
-abbrev pub linked_as : Linked → Answer
-linked_as (Refused n) = refusal n
-linked_as Done = answer []
+-- the answer in document 01's numbers: start-up and link events give no values
+abbrev pub linked_as : Result ⊤ Refusal → Answer
+linked_as = answered (λ _. [])
 
 -- start-up: refusal 1
 abbrev pub start_up_checks : ℕ → List ℕ → List Check

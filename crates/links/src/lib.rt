@@ -6,46 +6,36 @@ ghost use Rattle.permit.specs.Permission.{Width};
 ghost use Rattle.tables.specs.Phys.{phy_count};
 ghost use Rattle.tables.specs.Refusals.{first_refusal};
 ghost use Rattle.tables.specs.Outcome.{out};
+ghost use Rattle.tables.specs.Numbers.{refused};
 ghost use Rattle.links.specs.Links.{linked_as, start_up_checks, start_up_out, left, leaving_out, identify_checks, moved, unzoned, identified, identify_out};
 
-use tables::{NO_BUFFERS, NO_OTHER_TABLES, NOT_READY, PHY_RECORD, READY, WRONG_SIZE};
+use tables::refusal::Refusal;
+use tables::{NO_BUFFERS, NO_OTHER_TABLES, NOT_READY, PHY_RECORD, READY};
 use wire::PhyNumber;
 
-// Document 01's number.
-const ADDRESS_ZERO: u8 = 5;
-
-#[derive(Clone, Copy)]
-pub enum Linked {
-    Refused(u8),
-    Done,
-}
-
 // The refusal of start-up.
-fn start_up_refusal(width: usize, permissions: &[u8]) -> u8
+fn check_start_up(width: usize, permissions: &[u8]) -> Result<(), Refusal>
     requires { Width width }
-    ensures { result ≡ first_refusal (start_up_checks width permissions.now) }
+    ensures { refused result ≡ first_refusal (start_up_checks width permissions.now) }
 {
     if !permit::permissions_sized(width, permissions) {
-        return WRONG_SIZE;
+        return Err(Refusal::WrongSize);
     }
-    0
+    Ok(())
 }
 
 // Start-up: the permission table as it stands before any order.
-pub fn start_up_at(width: usize, permissions: &mut [u8]) -> Linked
+pub fn start_up_at(width: usize, permissions: &mut [u8]) -> Result<(), Refusal>
     requires { Width width }
     ensures { out (linked_as result) (permissions.new ∷ []) ≡ start_up_out width permissions.old }
 {
-    let no = start_up_refusal(width, permissions);
-    if no != 0 {
-        return Linked::Refused(no);
-    }
+    check_start_up(width, permissions)?;
     permit::start_table(width, permissions);
-    Linked::Done
+    Ok(())
 }
 
 // Document 01's shelf.
-pub fn start_up(permissions: &mut [u8]) -> Linked
+pub fn start_up(permissions: &mut [u8]) -> Result<(), Refusal>
     ensures { out (linked_as result) (permissions.new ∷ []) ≡ start_up_out 16 permissions.old }
 {
     start_up_at(16, permissions)
@@ -62,29 +52,23 @@ fn leave(phys: &mut [u8], phy: PhyNumber)
 }
 
 // A phy leaves the ready state.
-pub fn leaving(phys: &mut [u8], phy: PhyNumber) -> Linked
+pub fn leaving(phys: &mut [u8], phy: PhyNumber) -> Result<(), Refusal>
     ensures { out (linked_as result) (phys.new ∷ []) ≡ leaving_out phys.old phy.0 }
 {
-    let no = tables::arrival_refusal(phys, phy, NO_OTHER_TABLES, NO_BUFFERS, READY);
-    if no != 0 {
-        return Linked::Refused(no);
-    }
+    tables::check_arrival(phys, phy, NO_OTHER_TABLES, NO_BUFFERS, READY)?;
     leave(phys, phy);
-    Linked::Done
+    Ok(())
 }
 
 // The refusals of IDENTIFY, in document 01's order.
-fn identify_refusal(phys: &[u8], phy: PhyNumber, address: &[u8; 8]) -> u8
-    ensures { result ≡ first_refusal (identify_checks phys.now phy.0 address.now) }
+fn check_identify(phys: &[u8], phy: PhyNumber, address: &[u8; 8]) -> Result<(), Refusal>
+    ensures { refused result ≡ first_refusal (identify_checks phys.now phy.0 address.now) }
 {
-    let no = tables::arrival_refusal(phys, phy, NO_OTHER_TABLES, NO_BUFFERS, NOT_READY);
-    if no != 0 {
-        return no;
-    }
+    tables::check_arrival(phys, phy, NO_OTHER_TABLES, NO_BUFFERS, NOT_READY)?;
     if wire::address_at(address, 0) == 0 {
-        return ADDRESS_ZERO;
+        return Err(Refusal::WrongField);
     }
-    0
+    Ok(())
 }
 
 // Whether an address was known and differs: another disk is attached now.
@@ -128,13 +112,10 @@ pub fn identify(
     address: &[u8; 8],
     device: u8,
     attached: u8,
-) -> Linked
+) -> Result<(), Refusal>
     ensures { out (linked_as result) (phys.new ∷ []) ≡ identify_out phys.old phy.0 address.now device attached }
 {
-    let no = identify_refusal(phys, phy, address);
-    if no != 0 {
-        return Linked::Refused(no);
-    }
+    check_identify(phys, phy, address)?;
     attach(phys, phy, address, device, attached);
-    Linked::Done
+    Ok(())
 }

@@ -1,3 +1,4 @@
+pub mod AnswerLaws
 pub mod RefusalLaws
 pub mod OutcomeLaws
 pub mod PhyLaws

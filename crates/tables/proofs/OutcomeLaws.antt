@@ -4,18 +4,27 @@ use mathlib.Core.Path.{◌≡◌, refl, sym, ap, ap₂, ◌∙◌}
 use mathlib.Core.List.{List}
 use Prim.Native.Nat.{ℕ, zero, suc}
 use native.Mathlib.Omega.{arith}
+use Rattle.std.proofs.Common.{Result}
+use Rattle.std.specs.Prelude.{IsErrAnd}
+use Rattle.std.proofs.lemmas.Result.{err_from_is_err_and}
+use Rattle.tables.specs.Numbers.{number, answered}
+use Rattle.tables.specs.declared.refusal.Refusal.{Refusal}
+use Rattle.tables.proofs.AnswerLaws.{number_above}
 use Rattle.tables.specs.Outcome.{Answer, refusal, answer, Out, out, outcome}
 
--- ---- with r the number that the call's checks answered
-pub refuses : (values : List ℕ) (r n : ℕ) (old new : List (List ℕ)) → r ≡ n → (r ≡ 0 → ⊥) → out (refusal r) old ≡ outcome n values old new
+-- ---- a call is refused: a check answered the error e, which a `?` hands on in r
+pub refuses : {A : Type 0} (f : A → List ℕ) (values : List ℕ) (r : Result A Refusal) (e : Refusal) (n : ℕ) (old new : List (List ℕ))
+    → IsErrAnd r (λ y. y ≡ e) → number e ≡ n → out (answered f r) old ≡ outcome n values old new
 unfolding outcome
-refuses values r zero old new e h = absurd (h e)
-refuses values r (suc n) old new e h = ap (λ (m : ℕ). out (refusal m) old) e
+refuses f values r e zero old new h q = absurd (number_above e q)
+refuses f values r e (suc n) old new h q =
+    let p = err_from_is_err_and r h in rw (p.1, p.2) (ap (λ (m : ℕ). out (refusal m) old) q)
 
-pub gives : (a : Answer) (values : List ℕ) (r n : ℕ) (bs old new : List (List ℕ)) → r ≡ n → r ≡ 0 → a ≡ answer values → bs ≡ new → out a bs ≡ outcome n values old new
+-- it is not: the check answered Ok
+pub gives : (a : Answer) (values : List ℕ) (n : ℕ) (bs old new : List (List ℕ)) → 0 ≡ n → a ≡ answer values → bs ≡ new → out a bs ≡ outcome n values old new
 unfolding outcome
-gives a values r zero bs old new e z ea eb = ap₂ out ea eb
-gives a values r (suc n) bs old new e z ea eb = absurd (omega arith)
+gives a values zero bs old new e ea eb = ap₂ out ea eb
+gives a values (suc n) bs old new e ea eb = absurd (omega arith)
 
 -- ---- two outcomes that meet a contract of one equation on one input are equal: in the answer, and in each buffer
 pub unique : {x y o : Out} → x ≡ o → y ≡ o → x ≡ y

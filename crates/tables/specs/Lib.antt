@@ -1,5 +1,6 @@
 pub mod Refusals
 pub mod Outcome
+pub mod Numbers
 pub mod Phys
 pub mod Routes
 pub mod Arrival

@@ -1,6 +1,8 @@
 // Phy records, route records and the set of all ready phys.
 #![tactic(auto)]
 
+pub mod refusal;
+
 ghost use Rattle.std.specs.Prelude.{◌≡◌, ◌++◌, ◌+◌, ◌*◌, ◌%◌, ◌<◌, ◌≤◌, length, drop};
 ghost use Rattle.wire.specs.PhySet.{set_byte};
 ghost use Rattle.tables.specs.Phys.{phy_record, phy_count, participating, phy_priority, phy_group, phy_address, device_type, attached_phy, ready, known, ready_set, empty_set, zoned, phys_sized};
@@ -8,22 +10,15 @@ ghost use Rattle.tables.specs.Ports.{same_port};
 ghost use Rattle.tables.specs.Routes.{route_count, route_address, route_phy, route_group, route_priority, routes_sized};
 ghost use Rattle.tables.specs.Refusals.{first_refusal};
 ghost use Rattle.tables.specs.Arrival.{arrival_checks};
+ghost use Rattle.tables.specs.Numbers.{refused};
 
-use wire::{OutsideGroup, PhyNumber, ZoneGroup};
+use refusal::Refusal;
+use wire::{PhyNumber, ZoneGroup};
 
 // The bytes of a phy record, and of a route record.
 pub const PHY_RECORD: usize = 16;
 
 pub const ROUTE_RECORD: usize = 12;
-
-// Document 01's numbers for what a call refuses first.
-pub const WRONG_SIZE: u8 = 1;
-
-const NO_SUCH_PHY: u8 = 2;
-
-const NO_ROOM: u8 = 3;
-
-const WRONG_STATE: u8 = 7;
 
 // What a call says of its other tables and of its room where it uses no other table, and where it writes no buffer.
 pub const NO_OTHER_TABLES: bool = true;
@@ -137,7 +132,7 @@ pub fn route_phy(routes: &[u8], i: usize) -> PhyNumber
     PhyNumber(routes[ROUTE_RECORD * i + 8])
 }
 
-pub fn route_group(routes: &[u8], i: usize) -> OutsideGroup
+pub fn route_group(routes: &[u8], i: usize) -> Option<ZoneGroup>
     requires { i < route_count routes.now }
     ensures { result ≡ route_group routes.now i }
 {
@@ -169,25 +164,31 @@ pub fn routes_sized(routes: &[u8]) -> bool
 
 // What every call with an arriving phy checks first. The call says whether its other tables have their sizes, whether there is room for
 // what it writes, and whether it awaits a phy that is ready.
-pub fn arrival_refusal(phys: &[u8], phy: PhyNumber, sizes: bool, room: bool, awaited: bool) -> u8
-    ensures { result ≡ first_refusal (arrival_checks phys.now phy.0 sizes room awaited) }
+pub fn check_arrival(
+    phys: &[u8],
+    phy: PhyNumber,
+    sizes: bool,
+    room: bool,
+    awaited: bool,
+) -> Result<(), Refusal>
+    ensures { refused result ≡ first_refusal (arrival_checks phys.now phy.0 sizes room awaited) }
 {
     if !phys_sized(phys) {
-        return WRONG_SIZE;
+        return Err(Refusal::WrongSize);
     }
     if !sizes {
-        return WRONG_SIZE;
+        return Err(Refusal::WrongSize);
     }
     if phys.len() / PHY_RECORD <= phy.0 as usize {
-        return NO_SUCH_PHY;
+        return Err(Refusal::NoSuchPhy);
     }
     if !room {
-        return NO_ROOM;
+        return Err(Refusal::NoRoom);
     }
     if is_ready(phys, phy) != awaited {
-        return WRONG_STATE;
+        return Err(Refusal::WrongState);
     }
-    0
+    Ok(())
 }
 
 // Whether there is a phy i and it is ready.

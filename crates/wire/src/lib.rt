@@ -8,10 +8,10 @@ ghost use Rattle.wire.specs.Address.{big_endian, address_at};
 ghost use Rattle.wire.specs.PhySet.{phys_in};
 
 // Both are below 128, and neither is accepted in the other's place: so each is a type of its own.
-#[derive(Clone, Copy)]
+#[derive(Clone, Copy, Debug, PartialEq, Eq)]
 pub struct PhyNumber(pub u8);
 
-#[derive(Clone, Copy)]
+#[derive(Clone, Copy, Debug, PartialEq, Eq)]
 pub struct ZoneGroup(pub u8);
 
 // The group of OPEN byte 20 and of a phy record's byte 1.
@@ -21,21 +21,12 @@ pub fn group_of(b: u8) -> ZoneGroup
     ZoneGroup(b % 128)
 }
 
-// What a byte from outside names: a shelf that is joined may number its groups to 255.
-#[derive(Clone, Copy)]
-pub enum OutsideGroup {
-    Group(ZoneGroup),
-    NoGroup,
-}
-
-// Reads the group carried for SMP, a broadcast frame's byte 3 and a route record's byte 9.
-pub fn outside_group(b: u8) -> OutsideGroup
+// What a byte from outside names: the group carried for SMP, a broadcast frame's byte 3 and a route record's byte 9. A shelf that is joined may
+// number its groups to 255, and above 127 there is none here.
+pub fn outside_group(b: u8) -> Option<ZoneGroup>
     ensures { result ≡ outside_group b }
 {
-    if 127 < b {
-        return OutsideGroup::NoGroup;
-    }
-    OutsideGroup::Group(ZoneGroup(b))
+    if 127 < b { None } else { Some(ZoneGroup(b)) }
 }
 
 // A byte as a number to count or point with. A cast of what is just read from a buffer is a call, since that is how it is proved.

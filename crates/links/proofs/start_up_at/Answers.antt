@@ -3,11 +3,11 @@ use Rattle.tables.proofs.OutcomeLaws.{refuses, gives}
 use Rattle.links.proofs.LinkLaws.{sized}
 use Rattle.links.proofs.start_up_at.Goals as goal
 
-pub returns-then-no-ne0 : goal.returns-then-no-ne0
-returns-then-no-ne0 c = search refuses
+pub returns-in_err-check_start_up : goal.returns-in_err-check_start_up
+returns-in_err-check_start_up c = refuses _ _ _ _ _ _ _ c.from_residual.ensures.1 c.in_err-check_start_up.ensures
 
 pub start_table-requires : goal.start_table-requires
-start_table-requires c = search sized
+start_table-requires c = search (sized, c.in_ok-check_start_up.ensures)
 
 pub returns : goal.returns
-returns c = search gives
+returns c = search (gives, c.in_ok-check_start_up.ensures)

@@ -1,8 +1,8 @@
--- `tables::arrival_refusal` meets its contract.
+-- `tables::check_arrival` meets its contract.
 use Rattle.tables.specs.Arrival.{arrival_checks}
 use Rattle.tables.proofs.RefusalLaws.{rows}
 use Rattle.tables.proofs.ArrivalLaws.{unlike-holds, unlike_fails}
-use Rattle.tables.proofs.arrival_refusal.Goals as goal
+use Rattle.tables.proofs.check_arrival.Goals as goal
 
 pub returns-then-not-phys_sized : goal.returns-then-not-phys_sized
 unfolding arrival_checks

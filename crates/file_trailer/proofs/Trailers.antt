@@ -2,21 +2,13 @@
 -- Assumes nothing.
 use mathlib.Core.Path.{◌≡◌, refl, sym, ap, ◌∙◌}
 use mathlib.Core.List.{List}
-use Prim.Native.Nat.{ℕ, ◌+◌, ◌*◌, ◌/◌, ◌%◌}
-use native.Mathlib.Numerals.{add-one}
-use lib.ListN.{length, set}
+use Prim.Native.Nat.{ℕ, ◌+◌, ◌*◌}
+use lib.ListN.{length}
 use Rattle.tables.specs.Refusals.{first_refusal}
 use Rattle.tables.proofs.RefusalLaws.{first, here, next, none}
-use Rattle.lines.specs.Written.{written, Wrote}
+use Rattle.lines.specs.Written.{Wrote}
 use Rattle.lines.proofs.Lines.{behind}
 use Rattle.file_trailer.specs.Trailer.{two, four, trailer, count_of, offset_of, size_of, lengths_checks}
-
-pub two-put : (t : List ℕ) (at x : ℕ) → Wrote t at (two x) (at + 2) (set (set t at (x / 256)) (at + 1) (x % 256))
-unfolding written
-two-put t at x = record { ends = refl; wrote = rw (add-one at) }
-
-pub four-put : (t t₁ t₂ : List ℕ) (at i j x : ℕ) → Wrote t at (two (x / 65536)) i t₁ → Wrote t₁ i (two (x % 65536)) j t₂ → Wrote t at (four x) j t₂
-four-put t t₁ t₂ at i j x p q = behind p q
 
 pub trailer-put : (t t₁ t₂ t₃ t₄ : List ℕ) (at i j k l version records size : ℕ) → Wrote t at (two version) i t₁ → Wrote t₁ i (two records) j t₂
     → Wrote t₂ j (four 0) k t₃ → Wrote t₃ k (four size) l t₄ → Wrote t at (trailer version records 0 size) l t₄

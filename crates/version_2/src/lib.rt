@@ -60,7 +60,12 @@ fn write_file(width: usize, phys: &[u8], permissions: &[u8], file: &mut [u8]) ->
 }
 
 // Writes the file of both tables and answers its length.
-pub fn save_version_2_at(width: usize, phys: &[u8], permissions: &[u8], file: &mut [u8]) -> Result<u32, Refusal>
+pub fn save_version_2_at(
+    width: usize,
+    phys: &[u8],
+    permissions: &[u8],
+    file: &mut [u8],
+) -> Result<u32, Refusal>
     requires { Width width }
     ensures { out (saved_as result) (file.new ∷ []) ≡ save_whole_out width phys.now permissions.now file.old }
 {
@@ -201,7 +206,11 @@ pub fn save_version_2(phys: &[u8], permissions: &[u8], file: &mut [u8]) -> Resul
     save_version_2_at(16, phys, permissions, file)
 }
 
-pub fn load_version_2(phys: &mut [u8], permissions: &mut [u8], file: &[u8]) -> Result<Version, Refusal>
+pub fn load_version_2(
+    phys: &mut [u8],
+    permissions: &mut [u8],
+    file: &[u8],
+) -> Result<Version, Refusal>
     ensures { out (loaded_as result) (phys.new ∷ permissions.new ∷ []) ≡ load_whole_out 16 phys.old permissions.old file.now }
 {
     load_version_2_at(16, phys, permissions, file)

@@ -9,8 +9,8 @@ use native.Mathlib.Omega.{arith}
 use borrow.Author.Tests.{lt-ltb, le-ltb, ltb-true, ltb-false, leb-true}
 use lib.Dec.{eqb, ltb, leb}
 use lib.ListN.{length, get_or}
-use Rattle.wire.specs.declared.OutsideGroup.{OutsideGroup}
-use Rattle.wire.specs.declared.OutsideGroup.TheVariants.{Group, NoGroup}
+use Rattle.std.proofs.Common.{Option, Some, None}
+use Rattle.wire.specs.declared.ZoneGroup.{ZoneGroup}
 use Rattle.wire.specs.Groups.{is_group}
 use Rattle.wire.specs.Bits.{bit, tab}
 use Rattle.wire.proofs.Loops.{length-tab}
@@ -68,9 +68,9 @@ right-group : (w : ℕ) (phys permissions : List ℕ) (phy carried : ℕ) → ri
 unfolding right
 right-group w phys permissions phy carried r = go (smp_source phys phy carried) r
   where
-    go : (o : OutsideGroup) → source_reaches w permissions o 2 ≡ true → is_group o ≡ true
+    go : (o : Option ZoneGroup) → source_reaches w permissions o 2 ≡ true → is_group o ≡ true
     go (Group a) e = refl
-    go NoGroup e = absurd (true≢false (sym e))
+    go None e = absurd (true≢false (sym e))
 
 pub taken : (ask : Ask) (w : ℕ) (phys permissions : List ℕ) (phy carried : ℕ) (changes : Changes) (room : Bool) → Rightful w phys permissions phy carried room
     → first_refusal (smp_checks w phys permissions phy carried changes (request_of ask) room) ≡ 0

@@ -1,5 +1,5 @@
 -- Request 06: what is promised of the console, of document 01's shelf and of the small one. The proofs are in proofs/.
-use Rattle.std.specs.Prelude.{◌≡◌, Bool, true, false, cond, List, [], ◌∷◌, ◌++◌, ◌⊎◌, ℕ, ◌+◌, ◌*◌, ◌≤◌, ◌<◌, eqb, length, get_or, take, drop, replicate}
+use Rattle.std.specs.Prelude.{◌≡◌, Bool, true, false, cond, List, [], ◌∷◌, ◌++◌, ◌⊎◌, ℕ, ◌+◌, ◌*◌, ◌≤◌, ◌<◌, eqb, length, get_or, take, drop, replicate, Result}
 use Rattle.wire.specs.Bits.{num, tab}
 use Rattle.permit.specs.Permission.{groups, P, reaches}
 use Rattle.tables.specs.Refusals.{first_refusal}
@@ -10,7 +10,7 @@ use Rattle.zone_report.specs.ZoneReport.{row_count, start_row}
 use Rattle.discover.specs.declared.Changes.{Changes}
 use Rattle.rules.specs.Rules.{function_of, smp_reply}
 use Rattle.smp.specs.Smp.{room_for, smp_checks, values_of, buffers_of, smp_out, accepted_orders}
-use Rattle.console_orders.specs.declared.Built.{Built}
+use Rattle.console_orders.specs.declared.Refusal.{Refusal}
 use Rattle.console_orders.specs.Building.{built_as, single_request, report_request}
 use Rattle.console_rows.specs.Batches.{batch_request}
 use Rattle.console_zones.specs.Zones.{entry_count, takes_part, priority_at, group_at, phy_zones_request}
@@ -130,8 +130,8 @@ SentBack =
 -- input, whose definition gives o, are the same; of the four that build and of the one that reads
 abbrev pub ExactlyOne : Type 0
 ExactlyOne =
-    ((r q : Built) (xs ys : List (List ℕ)) (o : Out) → out (built_as r) xs ≡ o → out (built_as q) ys ≡ o → (r ≡ q) × (xs ≡ ys))
-    × ((r q : Heard) (xs ys : List (List ℕ)) (o : Out) → out (heard_as r) xs ≡ o → out (heard_as q) ys ≡ o → (r ≡ q) × (xs ≡ ys))
+    ((r q : Result ℕ Refusal) (xs ys : List (List ℕ)) (o : Out) → out (built_as r) xs ≡ o → out (built_as q) ys ≡ o → (r ≡ q) × (xs ≡ ys))
+    × ((r q : Result Heard Refusal) (xs ys : List (List ℕ)) (o : Out) → out (heard_as r) xs ≡ o → out (heard_as q) ys ≡ o → (r ≡ q) × (xs ≡ ys))
 
 -- worked requests: case 1 of document 01; a row with group 5 (and not 122); an odd number of phys; two phys, one participating; a report
 pub record Worked : Type 0 where

@@ -11,7 +11,7 @@ ghost use Rattle.console_reading.specs.Reading.{heard_as, read_out};
 ghost use Rattle.console_c.specs.ConsoleC.{built_fields, heard_fields, yes};
 
 use boundary::{byte_of, phy_of};
-use console_orders::Built;
+use console_orders::Refusal;
 use console_reading::Heard;
 use wire::ZoneGroup;
 
@@ -33,40 +33,40 @@ pub struct HeardC {
     pub count: u32,
 }
 
-fn built_c(built: Built) -> BuiltC
+fn built_c(built: Result<u16, Refusal>) -> BuiltC
     ensures { built_fields result ≡ fields 1 (built_as built) }
 {
     match built {
-        Built::Refused(n) => BuiltC {
-            refusal: n as u32,
+        Err(refusal) => BuiltC {
+            refusal: u8::from(refusal) as u32,
             length: 0,
         },
-        Built::Length(m) => BuiltC {
+        Ok(length) => BuiltC {
             refusal: 0,
-            length: m as u32,
+            length: length as u32,
         },
     }
 }
 
-fn heard_c(heard: Heard) -> HeardC
+fn heard_c(heard: Result<Heard, Refusal>) -> HeardC
     ensures { heard_fields result ≡ fields 4 (heard_as heard) }
 {
     match heard {
-        Heard::Refused(n) => HeardC {
-            refusal: n as u32,
+        Err(refusal) => HeardC {
+            refusal: u8::from(refusal) as u32,
             function: 0,
             result: 0,
             start: 0,
             count: 0,
         },
-        Heard::Result(function, result) => HeardC {
+        Ok(Heard::Result(function, result)) => HeardC {
             refusal: 0,
             function: function as u32,
             result: result as u32,
             start: 0,
             count: 0,
         },
-        Heard::Rows(start, count) => HeardC {
+        Ok(Heard::Rows(start, count)) => HeardC {
             refusal: 0,
             function: 0x51,
             result: 0x00,

@@ -1,4 +1,4 @@
--- Building: the head's bytes, the loop that fills behind it, and the ends of the calls.
+-- Building: the loop that fills behind the head, and the ends of the calls.
 -- Assumes nothing.
 use mathlib.Core.Path.{◌≡◌, refl, sym, ap, ap₂, ◌∙◌}
 use mathlib.Core.Bool.{Bool}
@@ -10,7 +10,7 @@ use native.Mathlib.Omega.{arith}
 use mir.Syntax.{w8}
 use mir.Val.{Fits}
 use lib.ListN.{length, get_or, set, drop, length-set, length-append}
-use lib.Seq.{sets-eq, paste, paste-zero, paste-suc, take_all, take_at, drop_at, drop-drop}
+use lib.Seq.{paste, paste-zero, paste-suc, take_all, take_at, drop_at, drop-drop}
 use Rattle.wire.specs.Bits.{num, tab}
 use Rattle.wire.proofs.Loops.{length-tab, get_or-tab}
 use Rattle.tables.specs.Outcome.{answer, out}
@@ -18,15 +18,6 @@ use Rattle.tables.specs.Refusals.{first_refusal}
 use Rattle.tables.proofs.RefusalLaws.{clear}
 use Rattle.tables.proofs.OutcomeLaws.{gives}
 use Rattle.console_orders.specs.Building.{eight, twelve, single_checks, single_request, report_checks, report_request, built_out}
-
--- ---- heads
-pub eight-set : (l : List ℕ) (f d x y : ℕ) → 8 ≤ length l
-    → set (set (set (set (set (set (set (set l 0 0x40) 1 f) 2 0) 3 d) 4 0) 5 0) 6 x) 7 y ≡ eight f d x y ++ drop 8 l
-eight-set l f d x y h = sets-eq (eight f d x y) l 0 h
-
-pub twelve_set : (l : List ℕ) (d x y o s k : ℕ) → 12 ≤ length l
-    → set (set (set (set (set (set (set (set (set (set (set (set l 0 0x40) 1 0xc1) 2 0) 3 d) 4 0) 5 0) 6 x) 7 y) 8 0) 9 o) 10 s) 11 k ≡ twelve d x y o s k ++ drop 12 l
-twelve_set l d x y o s k h = sets-eq (twelve d x y o s k) l 0 h
 
 -- ---- the invariant of a loop that fills n bytes from `at` on
 pub record Put (f : ℕ → ℕ) (n at : ℕ) (s₀ s : List ℕ) (k : ℕ) : Type 0 where
@@ -71,32 +62,32 @@ behind f n at head room s t l e p =
       q,
     )
 
--- ---- the ends of the calls, with r the number that the checks answered
-module _ (room room₁ : List ℕ) (r : ℕ) where
-  pub single_done : (a b x y : ℕ) (new complete : Bool) → r ≡ first_refusal (single_checks (length room) a b) → r ≡ 0
+-- ---- the ends of the calls, where the checks answered Ok
+module _ (room room₁ : List ℕ) where
+  pub single_done : (a b x y : ℕ) (new complete : Bool) → 0 ≡ first_refusal (single_checks (length room) a b)
       → x ≡ num new → y ≡ num complete
       → room₁ ≡ twelve 2 a (128 * x + b) (0x80 + y) 0 0 ++ drop 12 room
       → out (answer (12 ∷ [])) (room₁ ∷ []) ≡ built_out (first_refusal (single_checks (length room) a b)) (single_request a b new complete) room
-  single_done a b x y new complete e z ex ey er =
-      gives _ _ r _ _ _ _ e z refl (ap (λ (l : List ℕ). l ∷ []) (er ∙ rw (ex, ey)))
+  single_done a b x y new complete e ex ey er =
+      gives _ _ _ _ _ _ e refl (ap (λ (l : List ℕ). l ∷ []) (er ∙ rw (ex, ey)))
 
-  pub report_done : (start count : ℕ) → r ≡ first_refusal (report_checks (length room) start count) → r ≡ 0
+  pub report_done : (start count : ℕ) → 0 ≡ first_refusal (report_checks (length room) start count)
       → room₁ ≡ eight 0x51 1 start count ++ drop 8 room
       → out (answer (8 ∷ [])) (room₁ ∷ []) ≡ built_out (first_refusal (report_checks (length room) start count)) (report_request start count) room
-  report_done start count e z er = gives _ _ r _ _ _ _ e z refl (ap (λ (l : List ℕ). l ∷ []) er)
+  report_done start count e er = gives _ _ _ _ _ _ e refl (ap (λ (l : List ℕ). l ∷ []) er)
 
 -- a request that an inner function wrote
-pub built : (bytes room room₁ : List ℕ) (r n m : ℕ) → r ≡ n → r ≡ 0 → m ≡ length bytes → room₁ ≡ bytes ++ drop (length bytes) room
+pub built : (bytes room room₁ : List ℕ) (n m : ℕ) → 0 ≡ n → m ≡ length bytes → room₁ ≡ bytes ++ drop (length bytes) room
     → out (answer (m ∷ [])) (room₁ ∷ []) ≡ built_out n bytes room
-built bytes room room₁ r n m e z el er = gives _ _ r n _ _ _ e z (ap (λ (k : ℕ). answer (k ∷ [])) el) (ap (λ (l : List ℕ). l ∷ []) er)
+built bytes room room₁ n m e el er = gives _ _ n _ _ _ e (ap (λ (k : ℕ). answer (k ∷ [])) el) (ap (λ (l : List ℕ). l ∷ []) er)
 
 -- what the checks of single and report leave
-module _ (room a b r : ℕ) (e : r ≡ first_refusal (single_checks room a b)) (z : r ≡ 0) where
+module _ (room a b : ℕ) (e : 0 ≡ first_refusal (single_checks room a b)) where
   pub single_room : 12 ≤ room
-  single_room = let k = clear (single_checks room a b) r e z tt in omega arith
+  single_room = let k = clear (single_checks room a b) 0 e refl tt in omega arith
 
   pub single_fits : (x : ℕ) → x ≤ 1 → Fits w8 (128 * x + b)
-  single_fits x h = let k = clear (single_checks room a b) r e z tt in omega arith
+  single_fits x h = let k = clear (single_checks room a b) 0 e refl tt in omega arith
 
-pub report_room : (room start count r : ℕ) → r ≡ first_refusal (report_checks room start count) → r ≡ 0 → 8 ≤ room
-report_room room start count r e z = let k = clear (report_checks room start count) r e z tt in omega arith
+pub report_room : (room start count : ℕ) → 0 ≡ first_refusal (report_checks room start count) → 8 ≤ room
+report_room room start count e = let k = clear (report_checks room start count) 0 e refl tt in omega arith

@@ -1,17 +1,29 @@
 -- Request 06, building: what every request has, a single order and a report. "21 request room under 1,020 bytes; 22 more entries than these; 23 a
 -- group or a first phy above 127, or a priority above 15; 24 an order that document 01 answers 02h though the caller has the right .. Nothing is
 -- written then."
-use Rattle.std.specs.Prelude.{Bool, List, [], ◌∷◌, ◌++◌, ℕ, ◌+◌, ◌*◌, length, drop}
+use Rattle.std.specs.Prelude.{Bool, List, [], ◌∷◌, ◌++◌, ℕ, ◌+◌, ◌*◌, length, drop, Result, ⊤}
 use Rattle.wire.specs.Bits.{num}
 use Rattle.tables.specs.Refusals.{Check, refuse, below, first_refusal}
-use Rattle.tables.specs.Outcome.{Answer, refusal, answer, Out, outcome}
-use Rattle.console_orders.specs.declared.Built.{Built}
-use Rattle.console_orders.specs.declared.Built.TheVariants.{Refused, Length}
+use Rattle.tables.specs.Outcome.{Answer, Out, outcome}
+use Rattle.tables.specs.Numbers.{refused_by, answered_by}
+use Rattle.console_orders.specs.declared.Refusal.{Refusal}
+use Rattle.console_orders.specs.declared.Refusal.TheVariants.{NoRoom, TooMany, TooHigh, WouldFail, NoResponse}
+
+-- the refusals' numbers
+abbrev pub number : Refusal → ℕ
+number NoRoom = 21
+number TooMany = 22
+number TooHigh = 23
+number WouldFail = 24
+number NoResponse = 25
+
+-- what a check answers, as its number: 0 where nothing is refused
+abbrev pub refused : Result ⊤ Refusal → ℕ
+refused = refused_by number
 
 -- "Answer: the request's length, or a refusal."
-abbrev pub built_as : Built → Answer
-built_as (Refused n) = refusal n
-built_as (Length m) = answer (m ∷ [])
+abbrev pub built_as : Result ℕ Refusal → Answer
+built_as = answered_by number (λ m. m ∷ [])
 
 -- a request in a lent buffer: at its front, with what stood behind
 abbrev pub at_front : List ℕ → List ℕ → List ℕ

@@ -5,35 +5,42 @@ ghost use Rattle.std.specs.Prelude.{◌≡◌, [], ◌∷◌, ◌++◌, ◌≤�
 ghost use Rattle.wire.specs.Bits.{num};
 ghost use Rattle.tables.specs.Refusals.{first_refusal};
 ghost use Rattle.tables.specs.Outcome.{out};
-ghost use Rattle.console_orders.specs.Building.{built_as, eight, twelve, single_checks, single_out, report_checks, report_out};
+ghost use Rattle.console_orders.specs.Building.{number, refused, built_as, eight, twelve, single_checks, single_out, report_checks, report_out};
 
 use wire::ZoneGroup;
 
-// Request 06's refusals, by their numbers.
-pub const NO_ROOM: u8 = 21;
+// Why the console builds no request, or reads no response.
+#[derive(Clone, Copy, Debug, PartialEq, Eq)]
+pub enum Refusal {
+    // There is no room for the request, or for the rows.
+    NoRoom,
+    TooMany,
+    TooHigh,
+    // A shelf would fail the order.
+    WouldFail,
+    // No shelf answers so.
+    NoResponse,
+}
 
-pub const TOO_MANY: u8 = 22;
+// Request 06's numbers.
+impl From<Refusal> for u8 {
+    ghost from_gives = { λ refusal n. n ≡ number refusal };
 
-pub const TOO_HIGH: u8 = 23;
-
-pub const WOULD_FAIL: u8 = 24;
-
-pub const NO_RESPONSE: u8 = 25;
-
-#[derive(Clone, Copy)]
-pub enum Built {
-    Refused(u8),
-    // The request's length.
-    Length(u16),
+    fn from(refusal: Refusal) -> u8 {
+        match refusal {
+            Refusal::NoRoom => 21,
+            Refusal::TooMany => 22,
+            Refusal::TooHigh => 23,
+            Refusal::WouldFail => 24,
+            Refusal::NoResponse => 25,
+        }
+    }
 }
 
 pub fn flag(v: bool) -> u8
     ensures { (result ≡ num v) × (result ≤ 1) }
 {
-    if v {
-        return 1;
-    }
-    0
+    v as u8
 }
 
 // The first eight bytes of a request.
@@ -41,14 +48,7 @@ pub fn write_eight(request: &mut [u8], function: u8, dwords: u8, x: u8, y: u8)
     requires { 8 ≤ length request.old }
     ensures { request.new ≡ eight function dwords x y ++ drop 8 request.old }
 {
-    request[0] = 0x40;
-    request[1] = function;
-    request[2] = 0;
-    request[3] = dwords;
-    request[4] = 0;
-    request[5] = 0;
-    request[6] = x;
-    request[7] = y;
+    request[..8].copy_from_slice(&[0x40, function, 0, dwords, 0, 0, x, y]);
 }
 
 // The first twelve bytes of a C1h request.
@@ -56,79 +56,68 @@ pub fn write_twelve(request: &mut [u8], dwords: u8, x: u8, y: u8, operation: u8,
     requires { 12 ≤ length request.old }
     ensures { request.new ≡ twelve dwords x y operation start k ++ drop 12 request.old }
 {
-    request[0] = 0x40;
-    request[1] = 0xc1;
-    request[2] = 0;
-    request[3] = dwords;
-    request[4] = 0;
-    request[5] = 0;
-    request[6] = x;
-    request[7] = y;
-    request[8] = 0;
-    request[9] = operation;
-    request[10] = start;
-    request[11] = k;
+    request[..12].copy_from_slice(&[0x40, 0xc1, 0, dwords, 0, 0, x, y, 0, operation, start, k]);
 }
 
 #[tactic(auto, unfolding(tables::specs::Refusals::first_refusal))]
-fn single_refusal(room: usize, a: ZoneGroup, b: ZoneGroup) -> u8
-    ensures { result ≡ first_refusal (single_checks room a.0 b.0) }
+fn check_single(room: usize, a: ZoneGroup, b: ZoneGroup) -> Result<(), Refusal>
+    ensures { refused result ≡ first_refusal (single_checks room a.0 b.0) }
 {
     if room < 1020 {
-        return NO_ROOM;
+        return Err(Refusal::NoRoom);
     }
     if 127 < a.0 {
-        return TOO_HIGH;
+        return Err(Refusal::TooHigh);
     }
     if 127 < b.0 {
-        return TOO_HIGH;
+        return Err(Refusal::TooHigh);
     }
     if a.0 < 2 {
-        return WOULD_FAIL;
+        return Err(Refusal::WouldFail);
     }
     if b.0 < 2 {
-        return WOULD_FAIL;
+        return Err(Refusal::WouldFail);
     }
-    0
+    Ok(())
 }
 
-// Permission between two groups, on or off.
-pub fn single(request: &mut [u8], a: ZoneGroup, b: ZoneGroup, new: bool, complete: bool) -> Built
+// Permission between two groups, on or off; answers the request's length.
+pub fn single(
+    request: &mut [u8],
+    a: ZoneGroup,
+    b: ZoneGroup,
+    new: bool,
+    complete: bool,
+) -> Result<u16, Refusal>
     ensures { out (built_as result) (request.new ∷ []) ≡ single_out request.old a.0 b.0 new complete }
 {
-    let no = single_refusal(request.len(), a, b);
-    if no != 0 {
-        return Built::Refused(no);
-    }
+    check_single(request.len(), a, b)?;
     let y = 128 * flag(new) + b.0;
     write_twelve(request, 2, a.0, y, 0x80 + flag(complete), 0, 0);
-    Built::Length(12)
+    Ok(12)
 }
 
 #[tactic(auto, unfolding(tables::specs::Refusals::first_refusal))]
-fn report_refusal(room: usize, start: ZoneGroup, count: u8) -> u8
-    ensures { result ≡ first_refusal (report_checks room start.0 count) }
+fn check_report(room: usize, start: ZoneGroup, count: u8) -> Result<(), Refusal>
+    ensures { refused result ≡ first_refusal (report_checks room start.0 count) }
 {
     if room < 1020 {
-        return NO_ROOM;
+        return Err(Refusal::NoRoom);
     }
     if 63 < count {
-        return TOO_MANY;
+        return Err(Refusal::TooMany);
     }
     if 127 < start.0 {
-        return TOO_HIGH;
+        return Err(Refusal::TooHigh);
     }
-    0
+    Ok(())
 }
 
-// A report of `count` rows from `start` on.
-pub fn report(request: &mut [u8], start: ZoneGroup, count: u8) -> Built
+// A report of `count` rows from `start` on; answers the request's length.
+pub fn report(request: &mut [u8], start: ZoneGroup, count: u8) -> Result<u16, Refusal>
     ensures { out (built_as result) (request.new ∷ []) ≡ report_out request.old start.0 count }
 {
-    let no = report_refusal(request.len(), start, count);
-    if no != 0 {
-        return Built::Refused(no);
-    }
+    check_report(request.len(), start, count)?;
     write_eight(request, 0x51, 1, start.0, count);
-    Built::Length(8)
+    Ok(8)
 }

@@ -5,36 +5,35 @@ use mathlib.Core.Bool.{Bool, true, false, cond, not}
 use mathlib.Core.List.{List, [], ◌∷◌, ◌++◌}
 use Prim.Native.Nat.{ℕ, zero, suc, ◌+◌, ◌-◌, ◌*◌, ◌/◌, ◌%◌, ◌^◌, ◌≤◌, ◌<◌}
 use native.Mathlib.Nat.{add-zero}
+use native.Mathlib.Decide.{ℕ_discrete}
 use native.Mathlib.Omega.{arith}
 use borrow.Author.Tests.{le-ltb, ltb-false, eq-eqb, ne_eqb}
 use lib.Dec.{eqb, ltb}
+use Rattle.std.specs.List.{list_any}
 use lib.ListN.{length, get_or, set, drop, length-set}
 use Rattle.wire.proofs.Loops.{Filled, fill_start, fill_again, fill_end}
 use lib.Seq.{get_or-drop}
 use lib.Bits.{bit_and, and_mask}
 use Rattle.wire.specs.Bits.{num, bit, tab}
 use Rattle.permit.specs.Permission.{P, place}
-use Rattle.tables.specs.Outcome.{Answer, answer, out}
+use Rattle.tables.specs.Outcome.{answer, out}
 use Rattle.tables.specs.Refusals.{first_refusal, Clear}
 use Rattle.tables.proofs.RefusalLaws.{clear, skipped, agrees_not}
 use Rattle.tables.proofs.OutcomeLaws.{gives}
 use Rattle.console_reading.specs.Reading.{among, possible, reports, start_of, count_of, rows_checks, short_checks, length_checks, head_checks, read_checks, unpacked, eight_from, heard, rows_then, read_out}
 
--- ---- one of these results, by each way out of a function that answers it
-module _ (r x : ℕ) (xs : List ℕ) where
-  pub among-here : r ≡ x → true ≡ among r (x ∷ xs)
-  unfolding among
-  among-here e = rw (eq-eqb r x e)
-
-  pub among_next : (v : Bool) → (r ≡ x → ⊥) → v ≡ among r xs → v ≡ among r (x ∷ xs)
-  unfolding among
-  among_next v n e = rw (ne_eqb r x n) e
-
-pub among_none : (r : ℕ) → false ≡ among r []
+-- ---- one of these results, as the library's `contains` looks for it
+pub contains_among : (r : ℕ) (xs : List ℕ) → list_any (λ y. eqb y r) xs ≡ among r xs
 unfolding among
-among_none r = refl
-
-pub ruleset amongst = (among-here, among_next, among_none)
+contains_among r [] = refl
+contains_among r (x ∷ xs) = rw (turned x r, contains_among r xs)
+  where
+    turned : (a b : ℕ) → eqb a b ≡ eqb b a
+    turned a b = go (ℕ_discrete a b)
+      where
+        go : Dec (a ≡ b) → eqb a b ≡ eqb b a
+        go (yes e) = rw e
+        go (no n) = rw (ne_eqb a b n, ne_eqb b a (λ e. n (sym e)))
 
 module _ (f r : ℕ) (v : Bool) where
   pub possible_93 : f ≡ 0x93 → v ≡ among r (0x00 ∷ 0x02 ∷ 0x03 ∷ 0x10 ∷ []) → v ≡ possible f r
@@ -102,7 +101,7 @@ bit_at response k m e h =
     rw (p, q, ← get_or-drop 12 response ((k + m) / 128 * 16 + (16 - 1 - (k + m) % 128 / 8)) 0)
     (sym (half (get_or (drop 12 response) ((k + m) / 128 * 16 + (16 - 1 - (k + m) % 128 / 8)) 0 / 2 ^ m % 2) (omega arith)))
 
--- ---- the two ends of the call, with r the number that the checks answered
+-- ---- the two ends of the call, where the checks answered Ok
 head_passed : (response : List ℕ) → first_refusal (head_checks response) ≡ 0 → (4 ≤ length response) × (first_refusal (length_checks response) ≡ 0)
 unfolding first_refusal
 head_passed response e =
@@ -123,28 +122,28 @@ room_passed response room e = go (ltb room 8064) refl e
     go true ea h = absurd (omega arith)
     go false ea h = (ltb-false room 8064 (sym ea), h)
 
-module _ (response : List ℕ) (room r : ℕ) (e : r ≡ first_refusal (read_checks response room)) (z : r ≡ 0) where
+module _ (response : List ℕ) (room : ℕ) (e : 0 ≡ first_refusal (read_checks response room)) where
   pub read_room : 8064 ≤ room
-  read_room = (room_passed response room (sym e ∙ z)).0
+  read_room = (room_passed response room (sym e)).0
 
   pub read_long : 4 ≤ length response
-  read_long = (head_passed response (room_passed response room (sym e ∙ z)).1).0
+  read_long = (head_passed response (room_passed response room (sym e)).1).0
 
   pub read_rows : (v : Bool) → v ≡ reports response → v ≡ true → Clear (rows_checks response)
   unfolding length_checks
   read_rows v ev t =
-      let h : first_refusal (cond (reports response) (rows_checks response) (short_checks response)) ≡ 0 = (head_passed response (room_passed response room (sym e ∙ z)).1).1 in
+      let h : first_refusal (cond (reports response) (rows_checks response) (short_checks response)) ≡ 0 = (head_passed response (room_passed response room (sym e)).1).1 in
       clear (rows_checks response) 0 (sym (rw (sym ev ∙ t) at h)) refl tt
 
-module _ (response rows rows₁ : List ℕ) (r : ℕ) (e : r ≡ first_refusal (read_checks response (length rows))) (z : r ≡ 0) (v : Bool) (ev : v ≡ reports response) (a : Answer) where
-  pub read_report : v ≡ true → a ≡ answer (0x51 ∷ 0x00 ∷ start_of response ∷ count_of response ∷ []) → rows₁ ≡ tab (unpacked response) 0 (128 * count_of response) ++ drop (128 * count_of response) rows
-      → out a (rows₁ ∷ []) ≡ read_out response rows
+module _ (response rows rows₁ : List ℕ) (e : 0 ≡ first_refusal (read_checks response (length rows))) (v : Bool) (ev : v ≡ reports response) (a : List ℕ) where
+  pub read_report : v ≡ true → a ≡ (0x51 ∷ 0x00 ∷ start_of response ∷ count_of response ∷ []) → rows₁ ≡ tab (unpacked response) 0 (128 * count_of response) ++ drop (128 * count_of response) rows
+      → out (answer a) (rows₁ ∷ []) ≡ read_out response rows
   unfolding heard rows_then
-  read_report t ea er = gives _ _ r _ _ _ _ e z (rw (sym ev ∙ t) ea) (rw (sym ev ∙ t) (ap (λ (l : List ℕ). l ∷ []) er))
+  read_report t ea er = gives _ _ _ _ _ _ e (rw (sym ev ∙ t) (ap answer ea)) (rw (sym ev ∙ t) (ap (λ (l : List ℕ). l ∷ []) er))
 
-  pub read_result : v ≡ false → a ≡ answer (get_or response 1 0 ∷ get_or response 2 0 ∷ []) → out a (rows ∷ []) ≡ read_out response rows
+  pub read_result : v ≡ false → a ≡ (get_or response 1 0 ∷ get_or response 2 0 ∷ []) → out (answer a) (rows ∷ []) ≡ read_out response rows
   unfolding heard rows_then
-  read_result t ea = gives _ _ r _ _ _ _ e z (rw (sym ev ∙ t) ea) (rw (sym ev ∙ t))
+  read_result t ea = gives _ _ _ _ _ _ e (rw (sym ev ∙ t) (ap answer ea)) (rw (sym ev ∙ t))
 
 -- ---- the loop that unpacks, eight groups at a time
 pub eight_stored : (s : List ℕ) (at x b0 b1 b2 b3 b4 b5 b6 b7 : ℕ) → b0 ≡ bit x 0 → b1 ≡ bit x 1 → b2 ≡ bit x 2 → b3 ≡ bit x 3 → b4 ≡ bit x 4 → b5 ≡ bit x 5
@@ -192,10 +191,19 @@ module _ (response rows₀ rows : List ℕ) (count k : ℕ) (c : count ≤ 63) (
       let f7 = fill_next (unpacked response) (128 * count) rows₀ _ k 6 7 (bit X 6) refl room (next 6 (omega arith)) (bit_at response k 6 w (omega arith)) f6 in
       fill_next (unpacked response) (128 * count) rows₀ _ k 7 8 (bit X 7) refl room (next 7 (omega arith)) (bit_at response k 7 w (omega arith)) f7
 
-  pub eights_again : (rows₁ : List ℕ) → rows₁ ≡ eight_from X rows k → Eights response rows₀ (128 * count) rows₁ (k + 8)
-  eights_again rows₁ e =
+  pub eights_more : (rows₁ : List ℕ) → rows₁ ≡ eight_from X rows k → Eights response rows₀ (128 * count) rows₁ (k + 8)
+  eights_more rows₁ e =
       let w = r.whole in
       record { whole = omega arith; filled = subst (λ (s : List ℕ). Filled (unpacked response) (128 * count) rows₀ s (k + 8)) (sym e) eights_filled }
+
+-- as the code has it: byte q of the rows
+pub eights_again : (response rows₀ rows : List ℕ) (count q : ℕ) → count ≤ 63 → 8064 ≤ length rows₀ → q < 16 * count → Eights response rows₀ (128 * count) rows (8 * q)
+    → (rows₁ : List ℕ) → rows₁ ≡ eight_from (get_or response (12 + (16 * (q / 16) + (15 - q % 16))) 0) rows (8 * q) → Eights response rows₀ (128 * count) rows₁ (8 * (q + 1))
+eights_again response rows₀ rows count q c l h r rows₁ e =
+    let p : 12 + (16 * (q / 16) + (15 - q % 16)) ≡ 12 + (16 * (8 * q / 128) + (15 - 8 * q % 128 / 8)) = omega arith in
+    let s : 8 * q + 8 ≡ 8 * (q + 1) = omega arith in
+    subst (λ (i : ℕ). Eights response rows₀ (128 * count) rows₁ i) s
+    (eights_more response rows₀ rows count (8 * q) c l (omega arith) r rows₁ (e ∙ ap (λ (i : ℕ). eight_from (get_or response i 0) rows (8 * q)) p))
 
 pub eights_end : (response rows₀ : List ℕ) (n : ℕ) (rows : List ℕ) (i : ℕ) → n ≤ i → Eights response rows₀ n rows i
     → rows ≡ tab (unpacked response) 0 n ++ drop n rows₀

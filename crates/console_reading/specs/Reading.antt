@@ -1,18 +1,24 @@
 -- Request 06, reading: "a result, and for an accepted report the first group and rows as 0 or 1 for each group into a lent buffer"; 25 for "a length or
 -- bytes 0 to 7 that none of the three requests can get, from any shelf".
-use Rattle.std.specs.Prelude.{Bool, false, cond, ◌&&◌, ◌||◌, List, [], ◌∷◌, ◌++◌, ℕ, ◌+◌, ◌*◌, ◌/◌, ◌%◌, eqb, length, get_or, drop, set}
+use Rattle.std.specs.Prelude.{Bool, false, cond, ◌&&◌, ◌||◌, List, [], ◌∷◌, ◌++◌, ℕ, ◌+◌, ◌*◌, ◌/◌, ◌%◌, eqb, length, get_or, drop, set, Result}
 use Rattle.wire.specs.Bits.{num, bit, tab}
 use Rattle.permit.specs.Permission.{P}
 use Rattle.tables.specs.Refusals.{Check, refuse, below, differ, off, first_refusal}
-use Rattle.tables.specs.Outcome.{Answer, refusal, answer, Out, outcome}
+use Rattle.tables.specs.Outcome.{Answer, Out, outcome}
+use Rattle.tables.specs.Numbers.{answered_by}
+use Rattle.console_orders.specs.declared.Refusal.{Refusal}
+use Rattle.console_orders.specs.Building.{number}
 use Rattle.console_reading.specs.declared.Heard.{Heard}
-use Rattle.console_reading.specs.declared.Heard.TheVariants.{Refused, Result, Rows}
+use Rattle.console_reading.specs.declared.Heard.TheVariants as says
 
--- the answer: a refusal's number; function and result; or an accepted report's function, result, first group and rows
-abbrev pub heard_as : Heard → Answer
-heard_as (Refused n) = refusal n
-heard_as (Result function result) = answer (function ∷ result ∷ [])
-heard_as (Rows start count) = answer (0x51 ∷ 0x00 ∷ start ∷ count ∷ [])
+-- the values: function and result; or an accepted report's function, result, first group and rows
+abbrev pub heard_values : Heard → List ℕ
+heard_values (says.Result function result) = function ∷ result ∷ []
+heard_values (says.Rows start count) = 0x51 ∷ 0x00 ∷ start ∷ count ∷ []
+
+-- the answer: a refusal's number, or the values
+abbrev pub heard_as : Result Heard Refusal → Answer
+heard_as = answered_by number heard_values
 
 -- a result that is one of these
 unfoldable pub among : ℕ → List ℕ → Bool

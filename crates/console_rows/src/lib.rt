@@ -6,42 +6,39 @@ ghost use Rattle.std.proofs.Math.Seq.{paste};
 ghost use Rattle.wire.specs.Bits.{tab};
 ghost use Rattle.tables.specs.Refusals.{first_refusal, Clear};
 ghost use Rattle.tables.specs.Outcome.{out};
-ghost use Rattle.console_orders.specs.Building.{built_as, at_front};
+ghost use Rattle.console_orders.specs.Building.{refused, built_as, at_front};
 ghost use Rattle.console_rows.specs.Batches.{choice_rows, chosen, packed, batch_checks, batch_request, batch_out};
 
-use console_orders::{Built, NO_ROOM, TOO_HIGH, TOO_MANY, WOULD_FAIL, flag, write_twelve};
+use console_orders::{Refusal, flag, write_twelve};
 use wire::ZoneGroup;
 
 // Whether a batch names group 0 or 1.
 fn starts_low(start: ZoneGroup, k: usize) -> bool
     ensures { result ≡ (ltb start.0 2 && ltb 0 k) }
 {
-    if start.0 < 2 {
-        return 0 < k;
-    }
-    false
+    start.0 < 2 && 0 < k
 }
 
 #[tactic(auto, unfolding(tables::specs::Refusals::first_refusal))]
-fn batch_refusal(room: usize, start: ZoneGroup, choices: &[u8]) -> u8
-    ensures { result ≡ first_refusal (batch_checks room start.0 choices.now) }
+fn check_batch(room: usize, start: ZoneGroup, choices: &[u8]) -> Result<(), Refusal>
+    ensures { refused result ≡ first_refusal (batch_checks room start.0 choices.now) }
 {
     if room < 1020 {
-        return NO_ROOM;
+        return Err(Refusal::NoRoom);
     }
     if 8064 < choices.len() {
-        return TOO_MANY;
+        return Err(Refusal::TooMany);
     }
     if choices.len() % 128 != 0 {
-        return TOO_MANY;
+        return Err(Refusal::TooMany);
     }
     if 127 < start.0 {
-        return TOO_HIGH;
+        return Err(Refusal::TooHigh);
     }
     if starts_low(start, choices.len() / 128) {
-        return WOULD_FAIL;
+        return Err(Refusal::WouldFail);
     }
-    0
+    Ok(())
 }
 
 fn is_chosen(choices: &[u8], r: usize, j: usize) -> bool
@@ -57,9 +54,7 @@ fn packed_byte(choices: &[u8], i: usize) -> u8
     ensures { result ≡ packed choices.now i }
 {
     let mut byte: u8 = 0;
-    let mut j: usize = 8;
-    while 0 < j {
-        j -= 1;
+    for j in (0..8).rev() {
         byte = byte * 2 + is_chosen(choices, i / 16, 8 * (15 - i % 16) + j) as u8;
     }
     byte
@@ -70,10 +65,8 @@ fn write_rows(request: &mut [u8], choices: &[u8])
     ensures { request.new ≡ paste request.old 12 (tab (packed choices.now) 0 (16 * choice_rows choices.now)) (16 * choice_rows choices.now) }
 {
     let n = 16 * (choices.len() / 128);
-    let mut i: usize = 0;
-    while i < n {
+    for i in 0..n {
         request[12 + i] = packed_byte(choices, i);
-        i += 1;
     }
 }
 
@@ -88,12 +81,14 @@ fn write_batch(request: &mut [u8], start: ZoneGroup, choices: &[u8], complete: b
 }
 
 // Whole rows from `start` on: 128 bytes a row, byte j for group j.
-pub fn batch(request: &mut [u8], start: ZoneGroup, choices: &[u8], complete: bool) -> Built
+pub fn batch(
+    request: &mut [u8],
+    start: ZoneGroup,
+    choices: &[u8],
+    complete: bool,
+) -> Result<u16, Refusal>
     ensures { out (built_as result) (request.new ∷ []) ≡ batch_out request.old start.0 choices.now complete }
 {
-    let no = batch_refusal(request.len(), start, choices);
-    if no != 0 {
-        return Built::Refused(no);
-    }
-    Built::Length(write_batch(request, start, choices, complete))
+    check_batch(request.len(), start, choices)?;
+    Ok(write_batch(request, start, choices, complete))
 }

@@ -6,11 +6,11 @@ ghost use Rattle.std.proofs.Math.Seq.{paste};
 ghost use Rattle.wire.specs.Bits.{tab};
 ghost use Rattle.tables.specs.Refusals.{first_refusal, Clear};
 ghost use Rattle.tables.specs.Outcome.{out};
-ghost use Rattle.console_orders.specs.Building.{built_as, at_front};
+ghost use Rattle.console_orders.specs.Building.{refused, built_as, at_front};
 ghost use Rattle.wire.specs.Runs.{every};
 ghost use Rattle.console_zones.specs.Zones.{entry_count, small, fair, barred, phy_zones_checks, entry_byte, described, phy_zones_request, phy_zones_out};
 
-use console_orders::{Built, NO_ROOM, TOO_HIGH, TOO_MANY, WOULD_FAIL, flag, write_eight};
+use console_orders::{Refusal, flag, write_eight};
 use wire::PhyNumber;
 
 #[tactic(auto, unfolding(crate::specs::Zones::small))]
@@ -28,13 +28,10 @@ fn all_small(entries: &[u8]) -> bool
     requires { length entries.now ≤ 384 }
     ensures { result ≡ every (small entries.now) 0 (entry_count entries.now) }
 {
-    let k = entries.len() / 3;
-    let mut i: usize = 0;
-    while i < k {
+    for i in 0..entries.len() / 3 {
         if !is_small(entries, i) {
             return false;
         }
-        i += 1;
     }
     true
 }
@@ -54,13 +51,10 @@ fn all_fair(entries: &[u8]) -> bool
     requires { length entries.now ≤ 384 }
     ensures { result ≡ every (fair entries.now) 0 (entry_count entries.now) }
 {
-    let k = entries.len() / 3;
-    let mut i: usize = 0;
-    while i < k {
+    for i in 0..entries.len() / 3 {
         if !is_fair(entries, i) {
             return false;
         }
-        i += 1;
     }
     true
 }
@@ -78,28 +72,28 @@ fn is_barred(start: PhyNumber, entries: &[u8]) -> bool
 }
 
 #[tactic(auto, unfolding(tables::specs::Refusals::first_refusal))]
-fn phy_zones_refusal(room: usize, start: PhyNumber, entries: &[u8]) -> u8
-    ensures { result ≡ first_refusal (phy_zones_checks room start.0 entries.now) }
+fn check_phy_zones(room: usize, start: PhyNumber, entries: &[u8]) -> Result<(), Refusal>
+    ensures { refused result ≡ first_refusal (phy_zones_checks room start.0 entries.now) }
 {
     if room < 1020 {
-        return NO_ROOM;
+        return Err(Refusal::NoRoom);
     }
     if 384 < entries.len() {
-        return TOO_MANY;
+        return Err(Refusal::TooMany);
     }
     if entries.len() % 3 != 0 {
-        return TOO_MANY;
+        return Err(Refusal::TooMany);
     }
     if 127 < start.0 {
-        return TOO_HIGH;
+        return Err(Refusal::TooHigh);
     }
     if !all_small(entries) {
-        return TOO_HIGH;
+        return Err(Refusal::TooHigh);
     }
     if is_barred(start, entries) {
-        return WOULD_FAIL;
+        return Err(Refusal::WouldFail);
     }
-    0
+    Ok(())
 }
 
 // Byte i of the descriptors; the fill after an odd number of them is zero.
@@ -123,10 +117,8 @@ fn write_entries(request: &mut [u8], entries: &[u8])
 {
     let k = entries.len() / 3;
     let n = 2 * (k + k % 2);
-    let mut i: usize = 0;
-    while i < n {
+    for i in 0..n {
         request[8 + i] = entry_byte(entries, i);
-        i += 1;
     }
 }
 
@@ -141,12 +133,9 @@ fn write_zones(request: &mut [u8], start: PhyNumber, entries: &[u8]) -> u16
 }
 
 // The zones of a run of phys from `start` on: three bytes an entry.
-pub fn phy_zones(request: &mut [u8], start: PhyNumber, entries: &[u8]) -> Built
+pub fn phy_zones(request: &mut [u8], start: PhyNumber, entries: &[u8]) -> Result<u16, Refusal>
     ensures { out (built_as result) (request.new ∷ []) ≡ phy_zones_out request.old start.0 entries.now }
 {
-    let no = phy_zones_refusal(request.len(), start, entries);
-    if no != 0 {
-        return Built::Refused(no);
-    }
-    Built::Length(write_zones(request, start, entries))
+    check_phy_zones(request.len(), start, entries)?;
+    Ok(write_zones(request, start, entries))
 }

@@ -10,8 +10,12 @@ use native.Mathlib.Decide.{dec_lt, ℕ_discrete}
 use native.Mathlib.Omega.{arith}
 use borrow.Author.Tests.{eq-eqb, ne_eqb, lt-ltb, le-ltb, le-leb, lt-leb}
 use lib.Dec.{eqb, leb, ltb}
-use lib.ListN.{length, get_or, set, length-set}
-use lib.Seq.{get_or-set_same, get_or-set_other, ext_get_or}
+use lib.ListN.{length, get_or, set, replicate, length-set}
+use lib.Seq.{paste, length-paste, get_or-set_same, get_or-set_other, ext_get_or}
+use borrow.Rule.Slice.PartMut.{put_mid}
+use Rattle.std.proofs.lemmas.List.{get_or-replicate, length-replicate}
+use Rattle.std.proofs.lemmas.Slice.{put_mid-paste}
+use Rattle.wire.proofs.Copies.{paste_new, paste_below, paste_above}
 use Rattle.permit.specs.Permission.{table_size, start_byte, start_table}
 use Rattle.permit.specs.Start.{Between, row_again}
 use Rattle.permit.proofs.Laws.{length-start, get_or-start}
@@ -58,6 +62,39 @@ module _ (f : ℕ → ℕ) (lo : ℕ) (t : List ℕ) where
   pub between_above : (u : List ℕ) (at i : ℕ) → Between f lo t u at → i < length t → at ≤ i → get_or u i 0 ≡ get_or t i 0
   between_above u at i s h l = s.says i h ∙ rw (le-leb lo i (omega (arith, s.from)), le-ltb i at l)
 
+-- a part filled with x
+pub between_filled : (x lo at : ℕ) (t ys : List ℕ) → lo ≤ at → at ≤ length t → ys ≡ replicate (at - lo) x → Between (λ _. x) lo t (put_mid lo (at - lo) t ys) at
+between_filled x lo at t ys h l e = rw pasted (record {
+  from = h;
+  up_to = l;
+  sized = length-paste t lo xs n room source;
+  says = λ i hi. go i (dec_lt i lo) (dec_lt i at);
+})
+  where
+    n : ℕ
+    n = at - lo
+
+    xs : List ℕ
+    xs = replicate n x
+
+    room : lo + n ≤ length t
+    room = omega arith
+
+    source : n ≤ length xs
+    source = omega (arith, length-replicate n x)
+
+    pasted : put_mid lo n t ys ≡ paste t lo xs n
+    pasted = put_mid-paste lo n t ys xs n e refl (sym (length-replicate n x))
+
+    go : (i : ℕ) → Dec (i < lo) → Dec (i < at) → get_or (paste t lo xs n) i 0 ≡ cond (leb lo i && ltb i at) x (get_or t i 0)
+    go i (yes a) d = rw (lt-leb lo i a) (paste_below t lo xs n room source i a)
+    go i (no a) (yes b) =
+        let q : lo + (i - lo) ≡ i = omega arith in
+        rw (le-leb lo i (omega arith), lt-ltb i at b)
+        (ap (λ (m : ℕ). get_or (paste t lo xs n) m 0) (sym q) ∙ paste_new t lo xs n room source (i - lo) (omega arith) ∙ get_or-replicate n (i - lo) x 0 (omega arith))
+    go i (no a) (no b) =
+        rw (le-leb lo i (omega arith), le-ltb i at (omega arith)) (paste_above t lo xs n room source i (omega arith))
+
 -- two writes side by side are one
 pub between_join : (f g : ℕ → ℕ) (lo at to : ℕ) (t u v : List ℕ) → Between f lo t u at → Between g at u v to
     → ((i : ℕ) → at ≤ i → i < to → g i ≡ f i) → Between f lo t v to
@@ -88,9 +125,6 @@ module _ (x lo to : ℕ) where
   pub fill_again : (t u : List ℕ) (at : ℕ) → to ≤ length t → at < to → Between (λ _. x) lo t u at
       → Between (λ _. x) lo t (set u at x) (at + 1)
   fill_again t u at l h s = between_again (λ _. x) lo t u at x (omega arith) refl s
-
-  pub fill_done : (t u : List ℕ) (at : ℕ) → to ≤ at → at ≤ to → Between (λ _. x) lo t u at → Between (λ _. x) lo t u to
-  fill_done t u at l h s = between_done (λ _. x) lo t u at to l h s
 
 module _ (w : ℕ) (wide : 0 < w) where
   -- ---- the loop that makes every row row 0

@@ -110,11 +110,7 @@ pub fn fill(bytes: &mut [u8], from: usize, to: usize, x: u8)
     requires { (from ≤ to) × (to ≤ length bytes.old) }
     ensures { Between (λ _. x) from bytes.old bytes.new to }
 {
-    let mut at = from;
-    while at < to {
-        bytes[at] = x;
-        at += 1;
-    }
+    bytes[from..to].fill(x);
 }
 
 // Every row becomes row 0. A byte is read one row before it is written, so the compiler moves whole rows at a time.
@@ -122,11 +118,8 @@ fn repeat_row(width: usize, permissions: &mut [u8])
     requires { Table width permissions.old }
     ensures { Between (row_again width permissions.old) width permissions.old permissions.new (table_size width) }
 {
-    let size = permissions.len();
-    let mut at = width;
-    while at < size {
+    for at in width..permissions.len() {
         permissions[at] = permissions[at - width];
-        at += 1;
     }
 }
 

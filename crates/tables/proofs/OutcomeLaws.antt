@@ -7,18 +7,23 @@ use native.Mathlib.Omega.{arith}
 use Rattle.std.proofs.Common.{Result}
 use Rattle.std.specs.Prelude.{IsErrAnd}
 use Rattle.std.proofs.lemmas.Result.{err_from_is_err_and}
-use Rattle.tables.specs.Numbers.{number, answered}
+use Rattle.tables.specs.Numbers.{number, answered_by, answered}
 use Rattle.tables.specs.declared.refusal.Refusal.{Refusal}
 use Rattle.tables.proofs.AnswerLaws.{number_above}
 use Rattle.tables.specs.Outcome.{Answer, refusal, answer, Out, out, outcome}
 
 -- ---- a call is refused: a check answered the error e, which a `?` hands on in r
+module _ {E : Type 0} (number_of : E → ℕ) (above : (e : E) → number_of e ≡ 0 → ⊥) where
+  pub refuses_by : {A : Type 0} (f : A → List ℕ) (values : List ℕ) (r : Result A E) (e : E) (n : ℕ) (old new : List (List ℕ))
+      → IsErrAnd r (λ y. y ≡ e) → number_of e ≡ n → out (answered_by number_of f r) old ≡ outcome n values old new
+  unfolding outcome
+  refuses_by f values r e zero old new h q = absurd (above e q)
+  refuses_by f values r e (suc n) old new h q =
+      let p = err_from_is_err_and r h in rw (p.1, p.2) (ap (λ (m : ℕ). out (refusal m) old) q)
+
 pub refuses : {A : Type 0} (f : A → List ℕ) (values : List ℕ) (r : Result A Refusal) (e : Refusal) (n : ℕ) (old new : List (List ℕ))
     → IsErrAnd r (λ y. y ≡ e) → number e ≡ n → out (answered f r) old ≡ outcome n values old new
-unfolding outcome
-refuses f values r e zero old new h q = absurd (number_above e q)
-refuses f values r e (suc n) old new h q =
-    let p = err_from_is_err_and r h in rw (p.1, p.2) (ap (λ (m : ℕ). out (refusal m) old) q)
+refuses = refuses_by number number_above
 
 -- it is not: the check answered Ok
 pub gives : (a : Answer) (values : List ℕ) (n : ℕ) (bs old new : List (List ℕ)) → 0 ≡ n → a ≡ answer values → bs ≡ new → out a bs ≡ outcome n values old new

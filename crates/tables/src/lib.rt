@@ -100,7 +100,7 @@ pub fn same_port(phys: &[u8], phy: PhyNumber, other: PhyNumber) -> bool
     requires { (phy.0 < phy_count phys.now) × (other.0 < phy_count phys.now) }
     ensures { result ≡ same_port phys.now phy.0 other.0 }
 {
-    if phy.0 == other.0 {
+    if phy == other {
         return true;
     }
     let ready = is_ready(phys, phy) & is_ready(phys, other);
@@ -208,9 +208,7 @@ fn ready_byte(phys: &[u8], k: usize) -> u8
     ensures { result ≡ set_byte (ready phys.now) k }
 {
     let mut byte: u8 = 0;
-    let mut j: usize = 8;
-    while 0 < j {
-        j -= 1;
+    for j in (0..8).rev() {
         byte = byte * 2 + ready_at(phys, 8 * k + j) as u8;
     }
     byte
@@ -221,10 +219,8 @@ pub fn write_ready_set(phys: &[u8], set: &mut [u8])
     requires { (length phys.now % phy_record ≡ 0) × (16 ≤ length set.old) }
     ensures { set.new ≡ ready_set phys.now ++ drop 16 set.old }
 {
-    let mut k: usize = 0;
-    while k < 16 {
+    for k in 0..16 {
         set[k] = ready_byte(phys, k);
-        k += 1;
     }
 }
 

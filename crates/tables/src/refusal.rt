@@ -37,11 +37,11 @@ pub enum Refusal {
     PhysNotAsDescribed,
 }
 
-impl Refusal {
-    pub fn number(self) -> u8
-        ensures { result ≡ number self }
-    {
-        match self {
+impl From<Refusal> for u8 {
+    ghost from_gives = { λ refusal n. n ≡ number refusal };
+
+    fn from(refusal: Refusal) -> u8 {
+        match refusal {
             Refusal::WrongSize => 1,
             Refusal::NoSuchPhy => 2,
             Refusal::NoRoom => 3,

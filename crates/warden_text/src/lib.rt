@@ -5,9 +5,9 @@
 ghost use Rattle.std.specs.Prelude.{◌≡◌, ◌+◌, ◌*◌, ◌<◌, ◌≤◌, length};
 ghost use Rattle.lines.specs.Text.{decimal};
 ghost use Rattle.lines.specs.Written.{Wrote};
-ghost use Rattle.warden_text.specs.Room.{built_length, heard_rows};
+ghost use Rattle.warden_text.specs.Room.{built_length, said_rows, heard_rows};
 
-use console_orders::Built;
+use console_orders::Refusal;
 use console_reading::Heard;
 
 fn put_line_number(number: u64, text: &mut [u8]) -> usize
@@ -86,27 +86,27 @@ fn put_no_response(text: &mut [u8], at: usize) -> usize
     )
 }
 
-// 21, too little room, cannot be: the buffers that are lent here are as large as the console asks. So all else is 25.
-fn put_reason(no: u8, text: &mut [u8], at: usize) -> usize
+// Too little room cannot be: the buffers that are lent here are as large as the console asks.
+fn put_reason(refusal: Refusal, text: &mut [u8], at: usize) -> usize
     requires { at + 128 ≤ length text.old }
     ensures { result ≤ at + 128 }
 {
-    match no {
-        22 => put_too_many(text, at),
-        23 => put_too_high(text, at),
-        24 => put_would_fail(text, at),
-        _ => put_no_response(text, at),
+    match refusal {
+        Refusal::TooMany => put_too_many(text, at),
+        Refusal::TooHigh => put_too_high(text, at),
+        Refusal::WouldFail => put_would_fail(text, at),
+        Refusal::NoRoom | Refusal::NoResponse => put_no_response(text, at),
     }
 }
 
-fn put_refusal(no: u8, number: u64, text: &mut [u8]) -> usize
+fn put_refusal(refusal: Refusal, number: u64, text: &mut [u8]) -> usize
     requires { 65536 ≤ length text.old }
     ensures { result ≤ length text.new }
 {
     let a = put_line_number(number, text);
-    let b = lines::put_decimal(no as u64, text, a);
+    let b = lines::put_decimal(u8::from(refusal) as u64, text, a);
     let c = lines::put_bytes(b", ", text, b);
-    put_reason(no, text, c)
+    put_reason(refusal, text, c)
 }
 
 // The space behind the last item of a list becomes the line's end.
@@ -142,13 +142,13 @@ fn put_request(request: &[u8], n: usize, text: &mut [u8]) -> usize
     end_list(text, at)
 }
 
-pub fn put_built(built: Built, request: &[u8], number: u64, text: &mut [u8]) -> usize
+pub fn put_built(built: Result<u16, Refusal>, request: &[u8], number: u64, text: &mut [u8]) -> usize
     requires { (built_length built ≤ length request.now) × (length request.now ≤ 1020) × (65536 ≤ length text.old) }
     ensures { result ≤ length text.new }
 {
     match built {
-        Built::Refused(no) => put_refusal(no, number, text),
-        Built::Length(n) => put_request(request, n as usize, text),
+        Err(refusal) => put_refusal(refusal, number, text),
+        Ok(n) => put_request(request, n as usize, text),
     }
 }
 
@@ -273,14 +273,24 @@ fn put_rows(start: u8, count: u8, rows: &[u8], text: &mut [u8]) -> usize
     at
 }
 
-pub fn put_heard(heard: Heard, rows: &[u8], number: u64, text: &mut [u8]) -> usize
+// What a response says.
+fn put_said(heard: Heard, rows: &[u8], text: &mut [u8]) -> usize
+    requires { (128 * said_rows heard ≤ length rows.now) × (length rows.now ≤ 8064) × (65536 ≤ length text.old) }
+    ensures { result ≤ length text.new }
+{
+    match heard {
+        Heard::Result(function, result) => put_result(function, result, text),
+        Heard::Rows(start, count) => put_rows(start, count, rows, text),
+    }
+}
+
+pub fn put_heard(heard: Result<Heard, Refusal>, rows: &[u8], number: u64, text: &mut [u8]) -> usize
     requires { (128 * heard_rows heard ≤ length rows.now) × (length rows.now ≤ 8064) × (65536 ≤ length text.old) }
     ensures { result ≤ length text.new }
 {
     match heard {
-        Heard::Refused(no) => put_refusal(no, number, text),
-        Heard::Result(function, result) => put_result(function, result, text),
-        Heard::Rows(start, count) => put_rows(start, count, rows, text),
+        Err(refusal) => put_refusal(refusal, number, text),
+        Ok(said) => put_said(said, rows, text),
     }
 }
 

@@ -1,12 +1,13 @@
 -- An address by its halves.
 -- Assumes nothing.
 use mathlib.Core.Path.{◌≡◌, refl, sym, ap, ◌∙◌}
-use mathlib.Core.List.{List, append-nil}
+use mathlib.Core.List.{List}
 use Prim.Native.Nat.{ℕ, zero, suc, ◌+◌, ◌*◌, ◌<◌}
 use native.Mathlib.Nat.{zero-add}
 use native.Mathlib.Omega.{arith}
-use lib.ListN.{length, take, drop, get_or, replicate}
-use lib.Seq.{paste, take_all, get_or-take, get_or-drop}
+use lib.ListN.{length, take, drop, get_or}
+use lib.Seq.{take_all, get_or-take, get_or-drop}
+use Rattle.std.specs.Int.{w64, from_be_bytes}
 use Rattle.wire.specs.Address.{big_endian, address_at}
 
 -- the bytes after the first n, behind the number that the first n make
@@ -22,37 +23,24 @@ big_split s (suc n) m i high =
     ∙ big_split s n m (suc i) (high * 256 + get_or s i 0)
     ∙ ap (λ (k : ℕ). big_endian s m k (big_endian s n (suc i) (high * 256 + get_or s i 0))) f
 
--- a number before two bytes, and before four
+-- a number before two bytes
 high_2 : (s : List ℕ) (i high : ℕ) → big_endian s 2 i high ≡ high * 65536 + big_endian s 2 i 0
 unfolding big_endian
 high_2 s i high = omega arith
 
-high_4 : (s : List ℕ) (i high : ℕ) → big_endian s 4 i high ≡ high * 4294967296 + big_endian s 4 i 0
-unfolding big_endian
-high_4 s i high = omega arith
-
 -- ---- what the functions make
-pub two_made : (s : List ℕ) (i a b : ℕ) → (a ≡ get_or s i 0) × (a < 256) → (b ≡ get_or s (i + 1) 0) × (b < 256)
-    → (a * 256 + b ≡ big_endian s 2 i 0) × (a * 256 + b < 65536)
+pub two_made : (s : List ℕ) (i r : ℕ) → r ≡ get_or s i 0 * 256 + get_or s (i + 1) 0 → r ≡ big_endian s 2 i 0
 unfolding big_endian
-two_made s i a b ea eb =
+two_made s i r h =
     let n : i + 1 ≡ suc i = omega arith in
-    (omega (arith, ap (λ (k : ℕ). get_or s k 0) n), omega arith)
+    omega (arith, ap (λ (k : ℕ). get_or s k 0) n, h)
 
 pub four_made : (s : List ℕ) (i a b : ℕ) → (a ≡ big_endian s 2 i 0) × (a < 65536) → (b ≡ big_endian s 2 (i + 2) 0) × (b < 65536)
     → (a * 65536 + b ≡ big_endian s 4 i 0) × (a * 65536 + b < 4294967296)
 four_made s i a b ea eb =
     (omega (arith, big_split s 2 2 i 0, high_2 s (i + 2) (big_endian s 2 i 0)), omega arith)
 
-pub address_made : (s : List ℕ) (i a b : ℕ) → (a ≡ big_endian s 4 i 0) × (a < 4294967296) → (b ≡ big_endian s 4 (i + 4) 0) × (b < 4294967296)
-    → a * 4294967296 + b ≡ address_at s i
-unfolding address_at
-address_made s i a b ea eb = omega (arith, big_split s 4 4 i 0, high_4 s (i + 4) (big_endian s 4 i 0))
-
 -- ---- eight bytes, copied
-pub eight_copied : (s d : List ℕ) (i : ℕ) → d ≡ paste (replicate 8 0) 0 (drop i s) 8 → d ≡ take 8 (drop i s)
-eight_copied s d i e = e ∙ append-nil (take 8 (drop i s))
-
 -- the first eight of eight bytes are all
 pub eight_bytes : (s r : List ℕ) → length s ≡ 8 → r ≡ take 8 (drop 0 s) → r ≡ s
 eight_bytes s r l e = e ∙ take_all 8 s (omega arith)
@@ -74,11 +62,14 @@ big_moved s t (suc n) i j high f =
         let b : j + suc k ≡ suc j + k = omega arith in
         ap (λ (m : ℕ). get_or t m 0) a ∙ f (suc k) (omega arith) ∙ ap (λ (m : ℕ). get_or s m 0) b
 
-pub address_copied : (s e : List ℕ) (i a b : ℕ) → e ≡ take 8 (drop i s)
-    → (a ≡ big_endian e 4 0 0) × (a < 4294967296) → (b ≡ big_endian e 4 4 0) × (b < 4294967296)
-    → a * 4294967296 + b ≡ address_at s i
+-- what the language makes of eight bytes, the higher first
+be_made : (e : List ℕ) (r : ℕ) → r ≡ from_be_bytes w64 e → r ≡ big_endian e 8 0 0
+unfolding big_endian
+be_made e r h = omega (arith, h)
+
+pub address_copied : (s e : List ℕ) (i r : ℕ) → e ≡ take 8 (drop i s) → r ≡ from_be_bytes w64 e → r ≡ address_at s i
 unfolding address_at
-address_copied s e i a b q ea eb = address_made e 0 a b ea eb ∙ big_moved s e 8 0 i 0 same
+address_copied s e i r q h = be_made e r h ∙ big_moved s e 8 0 i 0 same
   where
     same : (k : ℕ) → k < 8 → get_or e (0 + k) 0 ≡ get_or s (i + k) 0
     same k h =

@@ -84,12 +84,3 @@ fill_end f n s₀ s k h r =
     let l = r.within in
     let e : k ≡ n = omega arith in
     r.filled ∙ ap (λ (m : ℕ). tab f 0 m ++ drop m s₀) e
-
--- zeros
-zeros-tab : (i n : ℕ) → tab (λ (k : ℕ). 0) i n ≡ replicate n 0
-unfolding tab
-zeros-tab i zero = refl
-zeros-tab i (suc n) = ap (λ (l : List ℕ). 0 ∷ l) (zeros-tab (suc i) n)
-
-pub clear_end : (n : ℕ) (s₀ s : List ℕ) (k : ℕ) → n ≤ k → Filled (λ (i : ℕ). 0) n s₀ s k → s ≡ replicate n 0 ++ drop n s₀
-clear_end n s₀ s k h r = fill_end (λ (i : ℕ). 0) n s₀ s k h r ∙ ap (λ (l : List ℕ). l ++ drop n s₀) (zeros-tab 0 n)

@@ -12,7 +12,8 @@ use mir.Syntax.{w8}
 use mir.Val.{bool_byte, Fits}
 use lib.Dec.{eqb, lit<}
 use lib.Pow.{shr-shr}
-use lib.ListN.{length, get_or, get_or-append}
+use lib.ListN.{length, take, get_or, get_or-append}
+use lib.Seq.{length-take-le, get_or-take}
 use lib.Count.{ones, ones_step, ones-le}
 use Rattle.wire.specs.Bits.{num, bit}
 use Rattle.wire.specs.PhySet.{member, bits_of, set_byte, set_of, tally, phys_in}
@@ -248,11 +249,8 @@ pub record Counted (s : List ℕ) (count k : ℕ) : Type 0 where
   pub small : count ≤ 8 * k
   pub counted : tally (member s) 0 128 ≡ count + tally (member s) (8 * k) (128 - 8 * k)
 
-pub count_start : (s : List ℕ) → Counted s 0 0
-count_start s = record { within = omega arith; small = omega arith; counted = omega arith }
-
-pub count_again : (s : List ℕ) (count k : ℕ) → k < 16 → get_or s k 0 < 256 → Counted s count k → Counted s (count + ones (get_or s k 0)) (k + 1)
-count_again s count k h b r =
+count_one : (s : List ℕ) (count k : ℕ) → k < 16 → get_or s k 0 < 256 → Counted s count k → Counted s (count + ones (get_or s k 0)) (k + 1)
+count_one s count k h b r =
     let e : 128 - 8 * k ≡ 8 + (128 - 8 * (k + 1)) = omega arith in
     let n : 8 * k + 8 ≡ 8 * (k + 1) = omega arith in
     record {
@@ -263,9 +261,16 @@ count_again s count k h b r =
           ∙ omega (arith, ap (tally (member s) (8 * k)) e, tally-add (member s) (8 * k) 8 (128 - 8 * (k + 1)), ones_byte s k b, ap (λ (i : ℕ). tally (member s) i (128 - 8 * (k + 1))) n);
     }
 
-pub count_end : (s : List ℕ) (count k : ℕ) → 16 ≤ k → Counted s count k → count ≡ phys_in s
+-- the code goes over the first sixteen bytes
+pub count_again : (s : List ℕ) (count k : ℕ) → 16 ≤ length s → k < length (take 16 s) → get_or s k 0 < 256 → Counted s count k
+    → Counted s (count + ones (get_or (take 16 s) k 0)) (k + 1)
+count_again s count k l h b r =
+    let e : k < 16 = omega (arith, length-take-le 16 s l) in rw (get_or-take 16 s k 0 e) (count_one s count k e b r)
+
+pub count_end : (s : List ℕ) (count k : ℕ) → 16 ≤ length s → length (take 16 s) ≤ k → Counted s count k → count ≡ phys_in s
 unfolding phys_in tally
-count_end s count k h r =
+count_end s count k m g r =
     let l = r.within in
+    let h : 16 ≤ k = omega (arith, length-take-le 16 s m) in
     let e : 128 - 8 * k ≡ 0 = omega arith in
     sym (r.counted ∙ ap (λ (n : ℕ). count + tally (member s) (8 * k) n) e ∙ add-zero count)

@@ -36,18 +36,12 @@ pub fn index(b: u8) -> usize
     b as usize
 }
 
-fn wide(b: u8) -> u64
-    ensures { (result ≡ b) × (result < 256) }
-{
-    b as u64
-}
-
 // Two bytes, the higher first.
 pub fn two_at(bytes: &[u8], at: usize) -> u64
     requires { at + 2 ≤ length bytes.now }
     ensures { (result ≡ big_endian bytes.now 2 at 0) × (result < 65536) }
 {
-    wide(bytes[at]) * 256 + wide(bytes[at + 1])
+    u16::from_be_bytes([bytes[at], bytes[at + 1]]) as u64
 }
 
 // Four bytes, as two halves.
@@ -63,11 +57,7 @@ pub fn copy(target: &mut [u8], at: usize, source: &[u8], from: usize, n: usize)
     requires { (at + n ≤ length target.old) × (from + n ≤ length source.now) }
     ensures { target.new ≡ paste target.old at (drop from source.now) n }
 {
-    let mut k: usize = 0;
-    while k < n {
-        target[at + k] = source[from + k];
-        k += 1;
-    }
+    target[at..at + n].copy_from_slice(&source[from..from + n]);
 }
 
 // The first n bytes become zero.
@@ -75,11 +65,7 @@ pub fn clear(target: &mut [u8], n: usize)
     requires { n ≤ length target.old }
     ensures { target.new ≡ replicate n 0 ++ drop n target.old }
 {
-    let mut k: usize = 0;
-    while k < n {
-        target[k] = 0;
-        k += 1;
-    }
+    target[..n].fill(0);
 }
 
 // The eight bytes from `at` on. Of such a copy a compiler makes one load, where eight bytes read one by one stay eight loads as soon
@@ -98,8 +84,7 @@ pub fn address_at(bytes: &[u8], at: usize) -> u64
     requires { at + 8 ≤ length bytes.now }
     ensures { result ≡ address_at bytes.now at }
 {
-    let eight = eight_at(bytes, at);
-    four_at(&eight, 0) * 4294967296 + four_at(&eight, 4)
+    u64::from_be_bytes(eight_at(bytes, at))
 }
 
 // Eight bytes as the array that IDENTIFY is handed.
@@ -116,10 +101,8 @@ pub fn phys_in(set: &[u8]) -> u8
     ensures { result ≡ phys_in set.now }
 {
     let mut count: u32 = 0;
-    let mut k: usize = 0;
-    while k < 16 {
-        count += u8::count_ones(set[k]);
-        k += 1;
+    for byte in &set[..16] {
+        count += byte.count_ones();
     }
     count as u8
 }

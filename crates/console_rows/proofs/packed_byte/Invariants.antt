@@ -6,6 +6,3 @@ use Rattle.console_rows.proofs.packed_byte.Given as goal
 
 abbrev pub invariant-loop-j : goal.invariant-loop-j
 invariant-loop-j l = Down (chosen l.choices (l.i / 16)) (8 * (15 - l.i % 16)) l.byte l.j
-
-abbrev pub decreases-loop-j : goal.decreases-loop-j
-decreases-loop-j l = l.j

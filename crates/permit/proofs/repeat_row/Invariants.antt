@@ -1,10 +1,6 @@
 -- `permit::repeat_row` meets its contract: the rows below `at` are row 0.
-use Prim.Native.Nat.{◌-◌}
 use Rattle.permit.specs.Start.{Between, row_again}
 use Rattle.permit.proofs.repeat_row.Given as goal
 
 abbrev pub invariant-loop-at : goal.invariant-loop-at
 invariant-loop-at l = Between (row_again l.width l.initial.permissions) l.width l.initial.permissions l.permissions l.at
-
-abbrev pub decreases-loop-at : goal.decreases-loop-at
-decreases-loop-at l = l.size - l.at

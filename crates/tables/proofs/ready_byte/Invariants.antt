@@ -6,6 +6,3 @@ use Rattle.tables.proofs.ready_byte.Given as goal
 
 abbrev pub invariant-loop-j : goal.invariant-loop-j
 invariant-loop-j l = Down (ready l.phys) (8 * l.k) l.byte l.j
-
-abbrev pub decreases-loop-j : goal.decreases-loop-j
-decreases-loop-j l = l.j

@@ -1,5 +1,4 @@
 -- `tables::write_ready_set` meets its contract.
-use Prim.Native.Nat.{◌-◌}
 use Rattle.wire.specs.PhySet.{set_byte}
 use Rattle.wire.proofs.Loops.{Filled}
 use Rattle.tables.specs.Phys.{ready}
@@ -7,6 +6,3 @@ use Rattle.tables.proofs.write_ready_set.Given as goal
 
 abbrev pub invariant-loop-k : goal.invariant-loop-k
 invariant-loop-k l = Filled (set_byte (ready l.phys)) 16 l.initial.set l.set l.k
-
-abbrev pub decreases-loop-k : goal.decreases-loop-k
-decreases-loop-k l = 16 - l.k

@@ -1,6 +1,6 @@
--- `version_2::version_refusal` meets its contract.
+-- `version_2::check_version` meets its contract.
 use Rattle.version_2.proofs.WholeLoads.{as_1, as_2, unknown}
-use Rattle.version_2.proofs.version_refusal.Goals as goal
+use Rattle.version_2.proofs.check_version.Goals as goal
 
 pub returns-then-version-eq1 : goal.returns-then-version-eq1
 returns-then-version-eq1 c = search as_1

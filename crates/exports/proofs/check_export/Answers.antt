@@ -1,6 +1,6 @@
--- `exports::export_refusal` meets its contract.
+-- `exports::check_export` meets its contract.
 use Rattle.tables.proofs.RefusalLaws.{rows}
-use Rattle.exports.proofs.export_refusal.Goals as goal
+use Rattle.exports.proofs.check_export.Goals as goal
 
 pub returns-then-not-permissions_sized : goal.returns-then-not-permissions_sized
 returns-then-not-permissions_sized c = search rows depth 16

@@ -1,6 +1,6 @@
--- `file_trailer::lengths_refusal` meets its contract.
+-- `file_trailer::check_lengths` meets its contract.
 use Rattle.file_trailer.proofs.Trailers.{lengths_size, lengths_count, lengths_offset, lengths_agree}
-use Rattle.file_trailer.proofs.lengths_refusal.Goals as goal
+use Rattle.file_trailer.proofs.check_lengths.Goals as goal
 
 pub returns-then-size_of-file : goal.returns-then-size_of-file
 returns-then-size_of-file c = search lengths_size

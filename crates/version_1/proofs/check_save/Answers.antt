@@ -1,7 +1,7 @@
--- `version_1::save_refusal` meets its contract.
+-- `version_1::check_save` meets its contract.
 use Rattle.version_1.proofs.Saves.{table_asked}
 use Rattle.tables.proofs.RefusalLaws.{rows}
-use Rattle.version_1.proofs.save_refusal.Goals as goal
+use Rattle.version_1.proofs.check_save.Goals as goal
 
 pub returns-then-not-permissions_sized : goal.returns-then-not-permissions_sized
 returns-then-not-permissions_sized c = search rows depth 16

@@ -1,8 +1,8 @@
--- `version_2::load_refusal` meets its contract.
+-- `version_2::check_load` meets its contract.
 use Rattle.tables.proofs.RefusalLaws.{rows}
 use Rattle.version_2.specs.Version2.{load_whole_checks}
 use Rattle.version_2.proofs.WholeLoads.{version_judged}
-use Rattle.version_2.proofs.load_refusal.Goals as goal
+use Rattle.version_2.proofs.check_load.Goals as goal
 
 pub returns-then-not-phys_sized : goal.returns-then-not-phys_sized
 unfolding load_whole_checks

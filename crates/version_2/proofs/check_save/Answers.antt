@@ -1,8 +1,8 @@
--- `version_2::save_refusal` meets its contract.
+-- `version_2::check_save` meets its contract.
 use Rattle.tables.proofs.RefusalLaws.{rows}
 use Rattle.version_1.proofs.Saves.{table_asked}
 use borrow.Author.Rules.{rules}
-use Rattle.version_2.proofs.save_refusal.Goals as goal
+use Rattle.version_2.proofs.check_save.Goals as goal
 
 pub returns-then-not-phys_sized : goal.returns-then-not-phys_sized
 returns-then-not-phys_sized c = search rows depth 16

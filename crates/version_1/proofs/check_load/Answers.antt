@@ -1,7 +1,7 @@
--- `version_1::load_refusal` meets its contract.
+-- `version_1::check_load` meets its contract.
 use Rattle.version_1.proofs.Loads.{version_2, version_unknown, version_1}
 use Rattle.tables.proofs.RefusalLaws.{rows}
-use Rattle.version_1.proofs.load_refusal.Goals as goal
+use Rattle.version_1.proofs.check_load.Goals as goal
 
 pub returns-then-not-permissions_sized : goal.returns-then-not-permissions_sized
 returns-then-not-permissions_sized c = search rows depth 16

@@ -1,6 +1,6 @@
--- `imports::group_cause` meets its contract.
+-- `imports::check_groups` meets its contract.
 use Rattle.tables.proofs.RefusalLaws.{rows}
-use Rattle.imports.proofs.group_cause.Goals as goal
+use Rattle.imports.proofs.check_groups.Goals as goal
 
 pub returns-then-a-lt2 : goal.returns-then-a-lt2
 returns-then-a-lt2 c = search rows depth 16

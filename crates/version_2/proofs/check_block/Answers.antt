@@ -1,7 +1,7 @@
--- `version_2::block_refusal` meets its contract.
+-- `version_2::check_block` meets its contract.
 use Rattle.version_2.proofs.WholeLoads.{measured_holds, count_off, pair_off, phy_off, zone_off, block_taken}
 use borrow.Author.Rules.{rules}
-use Rattle.version_2.proofs.block_refusal.Goals as goal
+use Rattle.version_2.proofs.check_block.Goals as goal
 
 pub returns-then-phys_of-count : goal.returns-then-phys_of-count
 returns-then-phys_of-count c = search count_off

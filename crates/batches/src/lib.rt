@@ -51,12 +51,10 @@ fn put_bits(
     requires { Table width permissions.old × (first + 8 ≤ groups width) × (first % 8 ≡ 0) × (low ≤ 8) × (group < groups width) × (m ≡ 2 ^ (group % 8)) }
     ensures { ColumnTo width (byte_has bits) group (first + low) permissions.old permissions.new (first + 8) }
 {
-    let mut k = low;
-    while k < 8 {
+    for k in low..8 {
         let on = bit_of(bits, k);
         let at = permit::byte_at(width, first + k, group);
         permissions[at] = permit::with_mask(permissions[at], m, on);
-        k += 1;
     }
 }
 
@@ -69,8 +67,7 @@ fn put_column(width: usize, permissions: &mut [u8], rows: &[u8], i: usize, r: Zo
     let m = permit::mask(group);
     let from = i * 16;
     put_bits(width, permissions, rows[from + 15], 0, 2, group, m);
-    let mut q: usize = 1;
-    while q < width {
+    for q in 1..width {
         put_bits(
             width,
             permissions,
@@ -80,7 +77,6 @@ fn put_column(width: usize, permissions: &mut [u8], rows: &[u8], i: usize, r: Zo
             group,
             m,
         );
-        q += 1;
     }
 }
 
@@ -99,10 +95,8 @@ pub fn batch(width: usize, permissions: &mut [u8], request: &[u8], start: ZoneGr
     ensures { permissions.new ≡ apply width (batch_orders width (drop 12 request.now) start.0 0 count) permissions.old }
 {
     let rows = &request[12..];
-    let mut i: u8 = 0;
-    while i < count {
+    for i in 0..count {
         let r = start.0 + i;
         batch_row(width, permissions, rows, i as usize, ZoneGroup(r));
-        i += 1;
     }
 }

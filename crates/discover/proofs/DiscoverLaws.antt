@@ -7,7 +7,6 @@ use Prim.Native.Nat.{ℕ, zero, suc, ◌+◌, ◌*◌, ◌/◌, ◌%◌, ◌≤�
 use native.Mathlib.Omega.{arith}
 use mir.Val.{bool_byte}
 use borrow.Author.Tests.{eq-eqb, ne_eqb}
-use lib.Dec.{eqb}
 use lib.ListN.{length, get_or, set, take, drop, replicate, length-set}
 use lib.Seq.{paste, drop-cons}
 use Rattle.wire.specs.Bits.{num, tab}
@@ -104,25 +103,25 @@ pub length-description : (phys : List ℕ) (i : ℕ) (changes : Changes) → len
 unfolding description
 length-description phys i changes = length-tab _ 4 104
 
--- ---- what the rule gives, with r the result that its checks answered
-module _ (w : ℕ) (phys permissions : List ℕ) (phy carried : ℕ) (request : List ℕ) (r : ℕ) (e : r ≡ first_refusal (discover_checks w phys permissions phy carried request)) where
-  -- where it is accepted, the request has its twelve bytes, and the phy is there
-  pub discover_long : r ≡ 0 → 9 < length request
-  discover_long z = let k = clear (discover_checks w phys permissions phy carried request) r e z tt in omega arith
+-- ---- what the rule gives where its checks answer nothing
+module _ (w : ℕ) (phys permissions : List ℕ) (phy carried : ℕ) (request : List ℕ) (e : 0 ≡ first_refusal (discover_checks w phys permissions phy carried request)) where
+  -- the request has its twelve bytes, and the phy is there
+  pub discover_long : 9 < length request
+  discover_long = let k = clear (discover_checks w phys permissions phy carried request) 0 e refl tt in omega arith
 
-  pub discover_there : r ≡ 0 → asked_phy request < phy_count phys
-  discover_there z = let k = clear (discover_checks w phys permissions phy carried request) r e z tt in omega arith
+  pub discover_there : asked_phy request < phy_count phys
+  discover_there = let k = clear (discover_checks w phys permissions phy carried request) 0 e refl tt in omega arith
 
-  pub discover_done : (changes : Changes) (response set response₁ set₁ : List ℕ) → r ≡ 0
+  pub discover_done : (changes : Changes) (response set response₁ set₁ : List ℕ)
       → response₁ ≡ (0x41 ∷ 0x10 ∷ 0x00 ∷ 0x1a ∷ description phys (asked_phy request) changes) ++ drop 108 response
       → set₁ ≡ empty_set ++ drop 16 set
-      → Leaves 0x10 (discover_reply w phys permissions phy carried changes request) response set r 108 phys permissions response₁ set₁
+      → Leaves 0x10 (discover_reply w phys permissions phy carried changes request) response set 0x00 108 phys permissions response₁ set₁
   unfolding discover_reply
-  discover_done changes response set response₁ set₁ z er es =
+  discover_done changes response set response₁ set₁ er es =
       let l = length-description phys (asked_phy request) changes in
-      leaves_done 0x10 r _ e _ phys permissions response set response₁ set₁ 108 phys permissions z
+      leaves_done 0x10 _ _ phys permissions response set 0x00 108 phys permissions response₁ set₁ e
       (record {
-        answered = z;
+        answered = refl;
         counted = omega arith;
         phys_then = refl;
         permissions_then = refl;
@@ -139,4 +138,4 @@ hidden w phys permissions phy carried changes request l s z h r =
     let said : not (length_said request) ≡ false = ap not s in
     let off : not (shown w phys permissions phy carried request) ≡ true = ap not (shown_heeding w phys permissions phy carried request z ∙ r) in
     let first : 0x16 ≡ first_refusal (discover_checks w phys permissions phy carried request) = search rows depth 16 in
-    sym (turns_down 0x16 _ first _ phys permissions (λ q. omega arith))
+    sym (turns_down _ _ phys permissions 0x16 first (λ q. omega arith))

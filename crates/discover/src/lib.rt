@@ -1,20 +1,21 @@
 // 10h DISCOVER: what stands at one phy.
 #![tactic(auto)]
 
-ghost use Rattle.std.specs.Prelude.{◌≡◌, cond, ◌∷◌, ◌++◌, ◌≤◌, ◌<◌, length, drop};
+ghost use Rattle.std.specs.Prelude.{◌≡◌, ◌≢◌, Err, cond, ◌∷◌, ◌++◌, ◌≤◌, ◌<◌, length, drop};
 ghost use Rattle.permit.specs.Permission.{Table};
 ghost use Rattle.tables.specs.Refusals.{first_refusal};
 ghost use Rattle.tables.specs.Phys.{phy_count, ready};
+ghost use Rattle.requests.specs.Results.{number, checked};
 ghost use Rattle.requests.specs.Requests.{Lent, Leaves};
 ghost use Rattle.discover.specs.Discover.{asked_phy, length_said, shown, discover_checks, description, discover_reply};
 ghost use Rattle.discover.specs.Inner.{fields_in, attached_in};
 
-use requests::Ruled;
+use requests::{FunctionResult, Ruled};
 use tables::PHY_RECORD;
 use wire::PhyNumber;
 
 // The change counts, which the caller keeps: of the expander, and of the phy that is asked for.
-#[derive(Clone, Copy)]
+#[derive(Clone, Copy, Debug, PartialEq, Eq)]
 pub struct Changes {
     pub expander: u16,
     pub phy: u8,
@@ -49,30 +50,31 @@ fn is_shown(
     requests::source_reaches(width, phys, permissions, phy, carried, group)
 }
 
-fn discover_result(
+fn check_discover(
     width: usize,
     phys: &[u8],
     permissions: &[u8],
     phy: PhyNumber,
     carried: u8,
     request: &[u8],
-) -> u8
+) -> Result<(), FunctionResult>
     requires { (phy.0 < phy_count phys.now) × Table width permissions.now }
-    ensures { result ≡ first_refusal (discover_checks width phys.now permissions.now phy.0 carried request.now) }
+    ensures number { checked result ≡ first_refusal (discover_checks width phys.now permissions.now phy.0 carried request.now) }
+    ensures turned_down { result ≢ Err FunctionResult.Accepted }
 {
     if request.len() != 12 {
-        return 0x03;
+        return Err(FunctionResult::InvalidLength);
     }
     if !length_said(request) {
-        return 0x03;
+        return Err(FunctionResult::InvalidLength);
     }
     if phys.len() / PHY_RECORD <= wire::index(request[9]) {
-        return 0x10;
+        return Err(FunctionResult::NoSuchPhy);
     }
     if !is_shown(width, phys, permissions, phy, carried, request) {
-        return 0x16;
+        return Err(FunctionResult::Vacant);
     }
-    0x00
+    Ok(())
 }
 
 // What is attached: of a phy that is ready.
@@ -107,7 +109,7 @@ fn describe(phys: &[u8], phy: PhyNumber, changes: Changes, response: &mut [u8])
     ensures { response.new ≡ (0x41 ∷ 0x10 ∷ 0x00 ∷ 0x1a ∷ description phys.now phy.0 changes) ++ drop 108 response.old }
 {
     wire::clear(response, 108);
-    requests::write_head(response, 0x10, 0x00, 0x1a);
+    requests::write_head(response, 0x10, FunctionResult::Accepted, 0x1a);
     write_fields(phys, phy, changes, response);
     show_attached(phys, phy, response);
 }
@@ -125,17 +127,15 @@ pub fn discover(
     set: &mut [u8],
 ) -> Ruled
     requires { Lent width phys.now permissions.now phy.0 (length request.now) (length response.old) (length set.old) }
-    ensures { Leaves 0x10 (discover_reply width phys.now permissions.now phy.0 carried changes request.now) response.old set.old result.result result.written phys.now permissions.now response.new set.new }
+    ensures { Leaves 0x10 (discover_reply width phys.now permissions.now phy.0 carried changes request.now) response.old set.old (number result.result) result.written phys.now permissions.now response.new set.new }
 {
-    let result = discover_result(width, phys, permissions, phy, carried, request);
-    tables::write_empty_set(set);
-    if result != 0x00 {
-        requests::write_head(response, 0x10, result, 0);
-        return Ruled { result, written: 4 };
+    if let Err(said) = check_discover(width, phys, permissions, phy, carried, request) {
+        return requests::turn_down(0x10, said, response, set);
     }
+    tables::write_empty_set(set);
     describe(phys, PhyNumber(request[9]), changes, response);
     Ruled {
-        result,
+        result: FunctionResult::Accepted,
         written: 108,
     }
 }

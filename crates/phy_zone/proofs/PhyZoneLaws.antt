@@ -41,11 +41,10 @@ pub ruleset soundness = (sound_high, sound_outside, sound_inside)
 
 -- ---- the loop that judges every descriptor: those before i are sound
 pub record Judged (w : ℕ) (request : List ℕ) (k i : ℕ) : Type 0 where
-  pub within : i ≤ k
   pub rest : all_sound w request 0 k ≡ all_sound w request i (k - i)
 
 pub judged_start : (w : ℕ) (request : List ℕ) (k : ℕ) → Judged w request k 0
-judged_start w request k = record { within = omega arith; rest = rw (sub-zero k) }
+judged_start w request k = record { rest = rw (sub-zero k) }
 
 module _ (w : ℕ) (request : List ℕ) (k i : ℕ) (v : Bool) (h : i < k) (e : v ≡ sound w (first request i) (group request i)) (j : Judged w request k i) where
   pub judged_off : not v ≡ true → false ≡ all_sound w request 0 k
@@ -54,30 +53,25 @@ module _ (w : ℕ) (request : List ℕ) (k i : ℕ) (v : Bool) (h : i < k) (e : 
 
   pub judged_again : not v ≡ false → Judged w request k (i + 1)
   unfolding all_sound
-  judged_again t = record { within = omega arith; rest = j.rest ∙ rw (left k i h, ← e, not-false v t, add-one i) }
+  judged_again t = record { rest = j.rest ∙ rw (left k i h, ← e, not-false v t, add-one i) }
 
 pub judged_end : (w : ℕ) (request : List ℕ) (k i : ℕ) → k ≤ i → Judged w request k i → true ≡ all_sound w request 0 k
 unfolding all_sound
-judged_end w request k i h j =
-    let l = j.within in
-    let z : k - i ≡ 0 = omega arith in
-    sym (j.rest ∙ rw z)
+judged_end w request k i h j = let z : k - i ≡ 0 = omega arith in sym (j.rest ∙ rw z)
 
 -- ---- the loop that writes the records: what is left, done to the table as it is, is the whole, done to the table handed in
 pub record Written (phys₀ request : List ℕ) (start k : ℕ) (phys : List ℕ) (i : ℕ) : Type 0 where
-  pub within : i ≤ k
   pub same : length phys ≡ length phys₀
   pub rest : configured phys₀ request start 0 k ≡ configured phys request start i (k - i)
 
 pub written_start : (phys request : List ℕ) (start k : ℕ) → Written phys request start k phys 0
-written_start phys request start k = record { within = omega arith; same = refl; rest = rw (sub-zero k) }
+written_start phys request start k = record { same = refl; rest = rw (sub-zero k) }
 
 pub written_again : (phys₀ request : List ℕ) (start k : ℕ) (phys : List ℕ) (i : ℕ) (phys₁ : List ℕ) → i < k
     → phys₁ ≡ zoned phys (start + i) (first request i) (group request i)
     → Written phys₀ request start k phys i → Written phys₀ request start k phys₁ (i + 1)
 unfolding configured
 written_again phys₀ request start k phys i phys₁ h e w = record {
-  within = omega arith;
   same = ap length e ∙ length-zoned phys (start + i) (first request i) (group request i) ∙ w.same;
   rest = w.rest ∙ rw (left k i h, e, add-one i);
 }
@@ -85,10 +79,7 @@ written_again phys₀ request start k phys i phys₁ h e w = record {
 pub written_end : (phys₀ request : List ℕ) (start k : ℕ) (phys : List ℕ) (i : ℕ) → k ≤ i → Written phys₀ request start k phys i
     → phys ≡ configured phys₀ request start 0 k
 unfolding configured
-written_end phys₀ request start k phys i h w =
-    let l = w.within in
-    let z : k - i ≡ 0 = omega arith in
-    sym (w.rest ∙ rw z)
+written_end phys₀ request start k phys i h w = let z : k - i ≡ 0 = omega arith in sym (w.rest ∙ rw z)
 
 -- ---- what the written records hold
 pub length-configured : (phys request : List ℕ) (start i n : ℕ) → length (configured phys request start i n) ≡ length phys
@@ -185,28 +176,21 @@ configured-holds phys request start i (suc n) d l u t =
         )
     go (no ne) later = later (omega arith) (omega arith) (rw (length-zoned phys (start + i) (first request i) (group request i)) t)
 
--- ---- what the rule gives, with r the result that its checks answered
+-- ---- what the rule gives where its checks answer nothing
 module _ (w : ℕ) (phys permissions : List ℕ) (phy carried : ℕ) (request : List ℕ)
-    (r : ℕ) (e : r ≡ first_refusal (phy_zone_checks w phys permissions phy carried request)) where
-  -- where it is accepted, its descriptors and their phys are there
-  pub accepted_fits : r ≡ 0 → length phys ≤ 128 * phy_record → Fitting phys request
-  accepted_fits z m =
-      let k = clear (phy_zone_checks w phys permissions phy carried request) r e z tt in
+    (e : 0 ≡ first_refusal (phy_zone_checks w phys permissions phy carried request)) where
+  -- its descriptors and their phys are there
+  pub accepted_fits : length phys ≤ 128 * phy_record → Fitting phys request
+  accepted_fits m =
+      let k = clear (phy_zone_checks w phys permissions phy carried request) 0 e refl tt in
       record { head = omega arith; described = omega arith; there = omega arith; most = m }
 
-  pub configure_done : (response set phys₁ response₁ set₁ : List ℕ) → r ≡ 0
+  pub configure_done : (response set phys₁ response₁ set₁ : List ℕ)
       → phys₁ ≡ configured phys request (start_phy request) 0 (entries request)
-      → response₁ ≡ (0x41 ∷ 0x93 ∷ r ∷ 0 ∷ []) ++ drop 4 response
+      → response₁ ≡ (0x41 ∷ 0x93 ∷ 0x00 ∷ 0 ∷ []) ++ drop 4 response
       → set₁ ≡ ready_set phys ++ drop 16 set
-      → Leaves 0x93 (phy_zone_reply w phys permissions phy carried request) response set r 4 phys₁ permissions response₁ set₁
+      → Leaves 0x93 (phy_zone_reply w phys permissions phy carried request) response set 0x00 4 phys₁ permissions response₁ set₁
   unfolding phy_zone_reply
-  configure_done response set phys₁ response₁ set₁ z ep er es =
-      leaves_done 0x93 r _ e _ phys permissions response set response₁ set₁ 4 phys₁ permissions z
-      (record {
-        answered = z;
-        counted = refl;
-        phys_then = ep;
-        permissions_then = refl;
-        responded = er ∙ ap (λ (x : ℕ). (0x41 ∷ 0x93 ∷ x ∷ 0 ∷ []) ++ drop 4 response) z;
-        told = es;
-      })
+  configure_done response set phys₁ response₁ set₁ ep er es =
+      leaves_done 0x93 _ _ phys permissions response set 0x00 4 phys₁ permissions response₁ set₁ e
+      (record { answered = refl; counted = refl; phys_then = ep; permissions_then = refl; responded = er; told = es })

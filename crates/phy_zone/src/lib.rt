@@ -1,15 +1,16 @@
 // 93h CONFIGURE PHY ZONE.
 #![tactic(auto)]
 
-ghost use Rattle.std.specs.Prelude.{◌≡◌, ◌++◌, ◌+◌, ◌*◌, ◌%◌, ◌≤◌, ◌<◌, length, drop};
+ghost use Rattle.std.specs.Prelude.{◌≡◌, ◌≢◌, Err, ◌++◌, ◌+◌, ◌*◌, ◌%◌, ◌≤◌, ◌<◌, length, drop};
 ghost use Rattle.permit.specs.Permission.{Width, Table};
 ghost use Rattle.tables.specs.Refusals.{first_refusal};
 ghost use Rattle.tables.specs.Phys.{phy_record, phy_count, ready_set};
+ghost use Rattle.requests.specs.Results.{number, checked};
 ghost use Rattle.requests.specs.Requests.{Lent, Leaves};
 ghost use Rattle.phy_zone.specs.PhyZone.{entries, start_phy, sound, all_sound, phy_zone_checks, configured, phy_zone_reply};
 ghost use Rattle.phy_zone.specs.Inner.{Fitting};
 
-use requests::Ruled;
+use requests::{FunctionResult, Ruled};
 use wire::PhyNumber;
 
 // Whether a descriptor may be written: its group is one, and is 1 where it is to participate.
@@ -31,49 +32,48 @@ fn all_sound(width: usize, request: &[u8], k: usize) -> bool
     requires { Width width × (8 + 2 * k ≤ length request.now) }
     ensures { result ≡ all_sound width request.now 0 k }
 {
-    let mut judged: usize = 0;
-    while judged < k {
+    for judged in 0..k {
         let at = 8 + 2 * judged;
         if !is_sound(width, request[at], request[at + 1]) {
             return false;
         }
-        judged += 1;
     }
     true
 }
 
-fn phy_zone_result(
+fn check_phy_zone(
     width: usize,
     phys: &[u8],
     permissions: &[u8],
     phy: PhyNumber,
     carried: u8,
     request: &[u8],
-) -> u8
+) -> Result<(), FunctionResult>
     requires { (phy.0 < phy_count phys.now) × Table width permissions.now }
-    ensures { result ≡ first_refusal (phy_zone_checks width phys.now permissions.now phy.0 carried request.now) }
+    ensures number { checked result ≡ first_refusal (phy_zone_checks width phys.now permissions.now phy.0 carried request.now) }
+    ensures turned_down { result ≢ Err FunctionResult.Accepted }
 {
     if !requests::has_right(width, phys, permissions, phy, carried) {
-        return 0x02;
+        return Err(FunctionResult::Failed);
     }
     if request.len() < 8 {
-        return 0x03;
+        return Err(FunctionResult::InvalidLength);
     }
     if request.len() != 4 + 4 * (request[3] as usize) {
-        return 0x03;
+        return Err(FunctionResult::InvalidLength);
     }
     // Byte 7 decides: for an odd k two bytes of fill follow, and are no descriptor.
     let k = request[7] as usize;
     if request.len() != 8 + 2 * k + 2 * (k % 2) {
-        return 0x03;
+        return Err(FunctionResult::InvalidLength);
     }
     if phys.len() / tables::PHY_RECORD < (request[6] % 128) as usize + k {
-        return 0x10;
+        return Err(FunctionResult::NoSuchPhy);
     }
     if !all_sound(width, request, k) {
-        return 0x02;
+        return Err(FunctionResult::Failed);
     }
-    0x00
+    Ok(())
 }
 
 // Writes the k descriptors to the records from start on.
@@ -83,8 +83,7 @@ fn configure(phys: &mut [u8], request: &[u8])
 {
     let start = request[6] % 128;
     let k = request[7];
-    let mut written: u8 = 0;
-    while written < k {
+    for written in 0..k {
         let at = 8 + 2 * (written as usize);
         tables::write_zone(
             phys,
@@ -92,7 +91,6 @@ fn configure(phys: &mut [u8], request: &[u8])
             request[at],
             request[at + 1],
         );
-        written += 1;
     }
 }
 
@@ -117,14 +115,15 @@ pub fn configure_phy_zone(
     set: &mut [u8],
 ) -> Ruled
     requires { Lent width phys.old permissions.now phy.0 (length request.now) (length response.old) (length set.old) }
-    ensures { Leaves 0x93 (phy_zone_reply width phys.old permissions.now phy.0 carried request.now) response.old set.old result.result result.written phys.new permissions.now response.new set.new }
+    ensures { Leaves 0x93 (phy_zone_reply width phys.old permissions.now phy.0 carried request.now) response.old set.old (number result.result) result.written phys.new permissions.now response.new set.new }
 {
-    let result = phy_zone_result(width, phys, permissions, phy, carried, request);
-    requests::write_head(response, 0x93, result, 0);
-    if result != 0x00 {
-        tables::write_empty_set(set);
-        return Ruled { result, written: 4 };
+    if let Err(said) = check_phy_zone(width, phys, permissions, phy, carried, request) {
+        return requests::turn_down(0x93, said, response, set);
     }
+    requests::write_head(response, 0x93, FunctionResult::Accepted, 0);
     carry_out(phys, request, set);
-    Ruled { result, written: 4 }
+    Ruled {
+        result: FunctionResult::Accepted,
+        written: 4,
+    }
 }

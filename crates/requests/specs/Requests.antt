@@ -1,7 +1,6 @@
 -- "SMP": what every request and response has. "Below, M is the request's length and L its byte 3."
-use Rattle.std.specs.Prelude.{◌≡◌, Bool, false, cond, List, [], ◌∷◌, ◌++◌, ℕ, zero, suc, ◌+◌, ◌*◌, ◌/◌, ◌%◌, ◌≤◌, ◌<◌, length, drop}
-use Rattle.wire.specs.declared.OutsideGroup.{OutsideGroup}
-use Rattle.wire.specs.declared.OutsideGroup.TheVariants.{Group, NoGroup}
+use Rattle.std.specs.Prelude.{◌≡◌, Bool, false, cond, Option, Some, None, List, [], ◌∷◌, ◌++◌, ℕ, zero, suc, ◌+◌, ◌*◌, ◌/◌, ◌%◌, ◌≤◌, ◌<◌, length, drop}
+use Rattle.wire.specs.declared.ZoneGroup.{ZoneGroup}
 use Rattle.wire.specs.Groups.{outside_group}
 use Rattle.permit.specs.Permission.{reaches, Table}
 use Rattle.tables.specs.Phys.{phy_record, phy_count, phy_group, participating, empty_set}
@@ -9,13 +8,13 @@ use Rattle.tables.specs.Phys.{phy_record, phy_count, phy_group, participating, e
 -- "The source group .. of anything arriving on a phy that is not participating, is the phy record's group. For the rest, on a participating
 -- phy, it is the group carried": for SMP a byte that the caller took from the connection's OPEN, of which document 02, request 02, says that
 -- "a byte above 127 is no group"
-unfoldable pub smp_source : List ℕ → ℕ → ℕ → OutsideGroup
-smp_source phys phy carried = cond (participating phys phy) (outside_group carried) (Group (record { 0 = phy_group phys phy }))
+unfoldable pub smp_source : List ℕ → ℕ → ℕ → Option ZoneGroup
+smp_source phys phy carried = cond (participating phys phy) (outside_group carried) (Some (record { 0 = phy_group phys phy }))
 
 -- P(source group, b); no group reaches nothing
-abbrev pub source_reaches : ℕ → List ℕ → OutsideGroup → ℕ → Bool
-source_reaches w permissions (Group a) b = reaches w permissions a.0 b
-source_reaches w permissions NoGroup b = false
+abbrev pub source_reaches : ℕ → List ℕ → Option ZoneGroup → ℕ → Bool
+source_reaches w permissions (Some a) b = reaches w permissions a.0 b
+source_reaches w permissions None b = false
 
 -- "A caller may change zoning exactly if P(source group, 2) is on"
 unfoldable pub right : ℕ → List ℕ → List ℕ → ℕ → ℕ → Bool

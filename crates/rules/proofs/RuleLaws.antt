@@ -2,8 +2,8 @@
 -- Assumes nothing.
 use mathlib.Core.Path.{◌≡◌, refl, sym, ap, ◌∙◌}
 use mathlib.Core.Bool.{Bool, true, false, cond}
-use mathlib.Core.List.{List, [], ◌∷◌, ◌++◌}
-use Prim.Native.Nat.{ℕ, zero, suc, ◌+◌, ◌/◌, ◌%◌, ◌≤◌, ◌<◌}
+use mathlib.Core.List.{List, []}
+use Prim.Native.Nat.{ℕ, zero, suc, ◌/◌, ◌%◌, ◌≤◌, ◌<◌}
 use native.Mathlib.Decide.{ℕ_discrete}
 use native.Mathlib.Omega.{arith}
 use borrow.Author.Tests.{eq-eqb, ne_eqb, le-ltb, ltb-true, ltb-false}
@@ -81,12 +81,10 @@ module _ (w : ℕ) (phys permissions : List ℕ) (phy carried : ℕ) (changes : 
         → Leaves F (smp_reply w phys permissions phy carried changes request) response set r len phys₁ permissions₁ response₁ set₁
     leaves_10 e l = carry 0x10 _ e (is_10 e) l
 
-  pub leaves_none : (response set response₁ set₁ : List ℕ) (r len : ℕ) → (F ≡ 0x93 → ⊥) → (F ≡ 0xc1 → ⊥) → (F ≡ 0x51 → ⊥) → (F ≡ 0x10 → ⊥) → r ≡ 1 → len ≡ 4
-      → response₁ ≡ (0x41 ∷ F ∷ 1 ∷ 0 ∷ []) ++ drop 4 response → set₁ ≡ empty_set ++ drop 16 set
-      → Leaves F (smp_reply w phys permissions phy carried changes request) response set r len phys permissions response₁ set₁
-  leaves_none response set response₁ set₁ r len n m k j er ew ea es =
-      rw (is_none n m k j)
-      (record { answered = er; counted = ew; phys_then = refl; permissions_then = refl; responded = ea; told = es })
+    pub leaves_none : (F ≡ 0x93 → ⊥) → (F ≡ 0xc1 → ⊥) → (F ≡ 0x51 → ⊥) → (F ≡ 0x10 → ⊥)
+        → Leaves F (turned_down 0x01 phys permissions) response set r len phys₁ permissions₁ response₁ set₁
+        → Leaves F (smp_reply w phys permissions phy carried changes request) response set r len phys₁ permissions₁ response₁ set₁
+    leaves_none n m k j l = carry F _ refl (is_none n m k j) l
 
   -- ---- by cases on the function byte, once for every law of the reply
   each : (Q : Reply → Type 0) → Q (phy_zone_reply w phys permissions phy carried request) → Q (permission_reply w phys permissions phy carried request)

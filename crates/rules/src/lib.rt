@@ -1,15 +1,16 @@
 // The function byte picks one of four rules.
 #![tactic(auto)]
 
-ghost use Rattle.std.specs.Prelude.{◌≡◌, [], ◌∷◌, ◌++◌, ◌≤◌, ◌<◌, ltb, length, drop};
+ghost use Rattle.std.specs.Prelude.{◌≡◌, ◌≤◌, ◌<◌, ltb, length};
 ghost use Rattle.permit.specs.Permission.{Table};
-ghost use Rattle.tables.specs.Phys.{phy_count, empty_set};
+ghost use Rattle.tables.specs.Phys.{phy_count};
+ghost use Rattle.requests.specs.Results.{number};
 ghost use Rattle.requests.specs.Requests.{Lent, Leaves};
 ghost use Rattle.rules.specs.Rules.{function_of, smp_reply, length_field};
 
 use discover::{Changes, discover};
 use phy_zone::configure_phy_zone;
-use requests::Ruled;
+use requests::{FunctionResult, Ruled};
 use wire::PhyNumber;
 use zone_permission::configure_zone_permission;
 use zone_report::report_zone_permission;
@@ -33,20 +34,7 @@ pub fn too_long(
     }
 }
 
-// Any other function byte.
-fn unknown_function(function: u8, response: &mut [u8], set: &mut [u8]) -> Ruled
-    requires { (4 ≤ length response.old) × (16 ≤ length set.old) }
-    ensures { (result.result ≡ 1) × (result.written ≡ 4) × (response.new ≡ (0x41 ∷ function ∷ 1 ∷ 0 ∷ []) ++ drop 4 response.old) × (set.new ≡ empty_set ++ drop 16 set.old) }
-{
-    requests::write_head(response, function, 0x01, 0);
-    tables::write_empty_set(set);
-    Ruled {
-        result: 0x01,
-        written: 4,
-    }
-}
-
-// One of four rules. Only DISCOVER shows the change counts.
+// One of four rules; any other function byte is unknown. Only DISCOVER shows the change counts.
 pub fn rule(
     width: usize,
     phys: &mut [u8],
@@ -59,7 +47,7 @@ pub fn rule(
     set: &mut [u8],
 ) -> Ruled
     requires { Lent width phys.old permissions.old phy.0 (length request.now) (length response.old) (length set.old) }
-    ensures { Leaves (function_of request.now) (smp_reply width phys.old permissions.old phy.0 carried changes request.now) response.old set.old result.result result.written phys.new permissions.new response.new set.new }
+    ensures { Leaves (function_of request.now) (smp_reply width phys.old permissions.old phy.0 carried changes request.now) response.old set.old (number result.result) result.written phys.new permissions.new response.new set.new }
 {
     let function = request[1];
     match function {
@@ -104,6 +92,6 @@ pub fn rule(
             response,
             set,
         ),
-        _ => unknown_function(function, response, set),
+        _ => requests::turn_down(function, FunctionResult::UnknownFunction, response, set),
     }
 }

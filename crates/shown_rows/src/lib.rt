@@ -28,10 +28,8 @@ fn start_rows(start: usize, count: usize, response: &mut [u8])
     requires { (start + count ≤ 128) × (12 + 16 * count ≤ length response.old) }
     ensures { Between (start_rows start 12) 12 response.old response.new (12 + 16 * count) }
 {
-    let mut k: usize = 0;
-    while k < count {
+    for k in 0..count {
         start_row(start + k, 12 + 16 * k, response);
-        k += 1;
     }
 }
 
@@ -40,13 +38,7 @@ fn rows_held(width: usize, start: usize, count: usize) -> usize
     requires { Width width }
     ensures { result ≡ min count (groups width - start) }
 {
-    if 8 * width <= start {
-        return 0;
-    }
-    if 8 * width - start <= count {
-        return 8 * width - start;
-    }
-    count
+    count.min((8 * width).saturating_sub(start))
 }
 
 // The n rows from start on that the table holds, each over the last bytes of its row in a response: of the groups that the table does not
@@ -55,8 +47,7 @@ fn own_rows(width: usize, permissions: &[u8], start: usize, n: usize, response: 
     requires { Table width permissions.now × (n ≤ groups width - start) × Started start n response.old }
     ensures { Between (shown width permissions.now start) 12 response.old response.new (12 + 16 * n) }
 {
-    let mut k: usize = 0;
-    while k < n {
+    for k in 0..n {
         let from = permit::row_at(width, start + k);
         wire::copy(
             response,
@@ -65,7 +56,6 @@ fn own_rows(width: usize, permissions: &[u8], start: usize, n: usize, response: 
             from,
             width,
         );
-        k += 1;
     }
 }
 

@@ -3,7 +3,7 @@
 use mathlib.Core.Path.{◌≡◌, refl, sym, ap, ◌∙◌}
 use mathlib.Core.Bool.{Bool, true, false, cond, ◌&&◌}
 use mathlib.Core.List.{List, [], ◌∷◌}
-use Prim.Native.Nat.{ℕ, ◌+◌, ◌≤◌}
+use Prim.Native.Nat.{ℕ}
 use native.Mathlib.Decide.{ℕ_discrete}
 use native.Mathlib.Omega.{arith}
 use borrow.Author.Tests.{leb-true, eq-eqb, ne_eqb}
@@ -13,13 +13,13 @@ use Rattle.wire.specs.PhySet.{phys_in}
 use Rattle.wire.proofs.Sets.{count_front}
 use Rattle.permit.specs.Permission.{permissions_sized, Width, Table}
 use Rattle.permit.proofs.Laws.{table_sized}
-use Rattle.permit.specs.Orders.{Order, apply}
+use Rattle.permit.specs.Orders.{apply}
 use Rattle.permit.specs.History.{Valid}
 use Rattle.tables.specs.Refusals.{first_refusal}
-use Rattle.tables.specs.Outcome.{refusal, answer, out, outcome}
+use Rattle.tables.specs.Outcome.{answer, out, outcome}
 use Rattle.tables.specs.Arrival.{arrival_checks}
 use Rattle.tables.proofs.ArrivalLaws.{both, arrived, arrival_clear}
-use Rattle.tables.proofs.OutcomeLaws.{refuses, gives}
+use Rattle.tables.proofs.OutcomeLaws.{gives}
 use Rattle.requests.specs.Requests.{Lent, Leaves}
 use Rattle.zone_permission.specs.ZonePermission.{orders_of}
 use Rattle.zone_permission.proofs.PermissionLaws.{accepted, valid_orders}
@@ -29,21 +29,17 @@ use Rattle.rules.proofs.RuleLaws.{set_16, other_table, order_table, passed}
 use Rattle.smp.specs.Smp.{room_for, smp_checks, values_of, buffers_of, accepted_orders}
 
 -- ---- the call
--- as the code has it: s is what was asked of the permission table's size, r the number of the shared rows
-pub smp_table : (w : ℕ) (phys permissions : List ℕ) (phy : ℕ) (room s : Bool) (r : ℕ) → Width w → s ≡ permissions_sized w permissions
-    → r ≡ first_refusal (arrival_checks phys phy s room true) → r ≡ 0 → Table w permissions
-smp_table w phys permissions phy room s r h es e z = table_sized w permissions h (sym es ∙ (arrived phys phy s room true r e z).sized)
+-- as the code has it: s is what was asked of the permission table's size
+pub smp_table : (w : ℕ) (phys permissions : List ℕ) (phy : ℕ) (room s : Bool) → Width w → s ≡ permissions_sized w permissions
+    → 0 ≡ first_refusal (arrival_checks phys phy s room true) → Table w permissions
+smp_table w phys permissions phy room s h es e = table_sized w permissions h (sym es ∙ (arrived phys phy s room true 0 e refl).sized)
 
--- r is the number that the refusals answered, whatever the counts are
-module _ (w : ℕ) (phys permissions : List ℕ) (phy carried : ℕ) (request response set : List ℕ) (r : ℕ)
-    (e : (k : Changes) → r ≡ first_refusal (smp_checks w phys permissions phy carried k request (room_for response set))) where
-  pub smp_refuses : (changes : Changes) (values : List ℕ) (old new : List (List ℕ)) → (r ≡ 0 → ⊥)
-      → out (refusal r) old ≡ outcome (first_refusal (smp_checks w phys permissions phy carried changes request (room_for response set))) values old new
-  smp_refuses changes values old new h = refuses values r _ old new (e changes) h
-
-  pub smp_lent : Width w → r ≡ 0 → Lent w phys permissions phy (length request) (length response) (length set)
-  smp_lent h z =
-      let k = arrival_clear phys phy (permissions_sized w permissions) (room_for response set) true _ r (e (record { expander = 0; phy = 0 })) z tt in
+-- nothing is refused, whatever the counts are
+module _ (w : ℕ) (phys permissions : List ℕ) (phy carried : ℕ) (request response set : List ℕ)
+    (e : (k : Changes) → 0 ≡ first_refusal (smp_checks w phys permissions phy carried k request (room_for response set))) where
+  pub smp_lent : Width w → Lent w phys permissions phy (length request) (length response) (length set)
+  smp_lent h =
+      let k = arrival_clear phys phy (permissions_sized w permissions) (room_for response set) true _ 0 (e (record { expander = 0; phy = 0 })) refl tt in
       let room = both (leb 1020 (length response)) (leb 16 (length set)) k.0.roomy in
       let q = k.1 in
       record {
@@ -56,16 +52,16 @@ module _ (w : ℕ) (phys permissions : List ℕ) (phy carried : ℕ) (request re
         set_room = leb-true _ _ room.1;
       }
 
-  pub smp_gives : (changes : Changes) (result written count : ℕ) (old : List (List ℕ)) (phys₁ permissions₁ response₁ set₁ : List ℕ) → r ≡ 0
+  pub smp_gives : (changes : Changes) (result written count : ℕ) (old : List (List ℕ)) (phys₁ permissions₁ response₁ set₁ : List ℕ)
       → Leaves (function_of request) (smp_reply w phys permissions phy carried changes request) response set result written phys₁ permissions₁ response₁ set₁ → count ≡ phys_in set₁
       → out (answer (result ∷ written ∷ count ∷ [])) (phys₁ ∷ permissions₁ ∷ response₁ ∷ set₁ ∷ [])
       ≡ outcome (first_refusal (smp_checks w phys permissions phy carried changes request (room_for response set)))
       (values_of (smp_reply w phys permissions phy carried changes request)) old
       (buffers_of (function_of request) (smp_reply w phys permissions phy carried changes request) response set)
-  smp_gives changes result written count old phys₁ permissions₁ response₁ set₁ z l ec =
+  smp_gives changes result written count old phys₁ permissions₁ response₁ set₁ l ec =
       let h : count ≡ phys_in (smp_reply w phys permissions phy carried changes request).set =
       ec ∙ ap phys_in l.told ∙ count_front _ (drop 16 set) (set_16 w phys permissions phy carried changes request) in
-      gives _ _ r _ _ _ _ (e changes) z (values l.answered l.counted h) (buffers l.phys_then l.permissions_then l.responded l.told)
+      gives _ _ _ _ _ _ (e changes) (values l.answered l.counted h) (buffers l.phys_then l.permissions_then l.responded l.told)
     where
       values : {a b c d f g : ℕ} → a ≡ b → c ≡ d → f ≡ g → answer (a ∷ c ∷ f ∷ []) ≡ answer (b ∷ d ∷ g ∷ [])
       values p q t = cc
@@ -111,4 +107,4 @@ module _ (w : ℕ) (phys permissions : List ℕ) (phy carried : ℕ) (changes : 
       go true (yes e) (no n) = rw (eq-eqb (function_of request) 0xc1 e, ne_eqb (smp_reply w phys permissions phy carried changes request).result 0 n) tt
       go true (yes e) (yes z) =
           rw (eq-eqb (function_of request) 0xc1 e, eq-eqb (smp_reply w phys permissions phy carried changes request).result 0 z)
-          (valid_orders w request (accepted w phys permissions phy carried request 0 (sym (passed w phys permissions phy carried changes request e z)) refl))
+          (valid_orders w request (accepted w phys permissions phy carried request (sym (passed w phys permissions phy carried changes request e z))))

@@ -1,23 +1,24 @@
 -- "SMP": the refusals, and what a request's call gives.
-use Rattle.std.specs.Prelude.{Bool, true, cond, ◌&&◌, List, [], ◌∷◌, ◌++◌, ℕ, ◌+◌, eqb, leb, length, get_or, drop}
+use Rattle.std.specs.Prelude.{Bool, true, cond, Result, ◌&&◌, List, [], ◌∷◌, ◌++◌, ℕ, ◌+◌, eqb, leb, length, get_or, drop}
 use Rattle.wire.specs.Groups.{is_group}
 use Rattle.wire.specs.PhySet.{phys_in}
 use Rattle.permit.specs.Permission.{permissions_sized}
 use Rattle.permit.specs.Orders.{Order}
 use Rattle.tables.specs.Refusals.{Check, refuse, below, differ, off, first_refusal}
-use Rattle.tables.specs.Outcome.{Answer, refusal, answer, Out, outcome}
+use Rattle.tables.specs.Outcome.{Answer, Out, outcome}
+use Rattle.tables.specs.Numbers.{answered}
+use Rattle.tables.specs.declared.refusal.Refusal.{Refusal}
 use Rattle.tables.specs.Arrival.{arrival_checks}
+use Rattle.requests.specs.Results.{number}
 use Rattle.requests.specs.Requests.{smp_source, Reply, response_of}
 use Rattle.zone_permission.specs.ZonePermission.{orders_of}
 use Rattle.discover.specs.declared.Changes.{Changes}
 use Rattle.rules.specs.Rules.{function_of, smp_reply, length_field}
 use Rattle.smp.specs.declared.Answered.{Answered}
-use Rattle.smp.specs.declared.Answered.TheVariants.{Refused, Replied}
 
 -- the answer in document 01's numbers: result, response bytes, phys told
-abbrev pub answered_as : Answered → Answer
-answered_as (Refused n) = refusal n
-answered_as (Replied result written told) = answer (result ∷ written ∷ told ∷ [])
+abbrev pub answered_as : Result Answered Refusal → Answer
+answered_as = answered (λ a. number a.result ∷ a.length ∷ a.told ∷ [])
 
 -- "response buffer under 1,020 bytes, phy set under 16": whether there is room for both
 abbrev pub room_for : List ℕ → List ℕ → Bool

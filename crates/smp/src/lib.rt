@@ -5,21 +5,25 @@ ghost use Rattle.std.specs.Prelude.{◌≡◌, [], ◌∷◌};
 ghost use Rattle.permit.specs.Permission.{Width};
 ghost use Rattle.tables.specs.Refusals.{first_refusal};
 ghost use Rattle.tables.specs.Outcome.{out};
+ghost use Rattle.tables.specs.Numbers.{refused};
 ghost use Rattle.smp.specs.Smp.{answered_as, smp_checks, smp_out};
 
 use discover::Changes;
+use requests::FunctionResult;
 use tables::READY;
-use wire::{OutsideGroup, PhyNumber};
+use tables::refusal::Refusal;
+use wire::PhyNumber;
 
-#[derive(Clone, Copy)]
-pub enum Answered {
-    Refused(u8),
-    // Result, response bytes, phys told.
-    Replied(u8, u16, u8),
+// What is answered to a request that is not refused: its result, how many bytes the response has, and how many phys are told.
+#[derive(Clone, Copy, Debug, PartialEq, Eq)]
+pub struct Answered {
+    pub result: FunctionResult,
+    pub length: u16,
+    pub told: u8,
 }
 
 // The refusals of a request, whatever the change counts are.
-pub fn smp_refusal(
+pub fn check_smp(
     width: usize,
     phys: &[u8],
     permissions: &[u8],
@@ -27,28 +31,25 @@ pub fn smp_refusal(
     carried: u8,
     request: &[u8],
     room: bool,
-) -> u8
+) -> Result<(), Refusal>
     requires { Width width }
-    ensures { (changes : Changes) → result ≡ first_refusal (smp_checks width phys.now permissions.now phy.0 carried changes request.now room) }
+    ensures { (changes : Changes) → refused result ≡ first_refusal (smp_checks width phys.now permissions.now phy.0 carried changes request.now room) }
 {
     let sizes = permit::permissions_sized(width, permissions);
-    let no = tables::arrival_refusal(phys, phy, sizes, room, READY);
-    if no != 0 {
-        return no;
-    }
+    tables::check_arrival(phys, phy, sizes, room, READY)?;
     if request.len() < 4 {
-        return 4;
+        return Err(Refusal::WrongLength);
     }
     if request[0] != 0x40 {
-        return 5;
+        return Err(Refusal::WrongField);
     }
-    let OutsideGroup::Group(_) = requests::smp_source(phys, phy, carried) else {
-        return 5;
+    let Some(_) = requests::smp_source(phys, phy, carried) else {
+        return Err(Refusal::WrongField);
     };
     if rules::too_long(width, phys, permissions, phy, carried, request) {
-        return 8;
+        return Err(Refusal::TooLong);
     }
-    0
+    Ok(())
 }
 
 // An SMP request arrives; `carried` is the group of the connection's OPEN, its byte 20 with bit 7 taken off, and `changes` what the caller
@@ -63,15 +64,12 @@ pub fn smp_at(
     request: &[u8],
     response: &mut [u8],
     set: &mut [u8],
-) -> Answered
+) -> Result<Answered, Refusal>
     requires { Width width }
     ensures { out (answered_as result) (phys.new ∷ permissions.new ∷ response.new ∷ set.new ∷ []) ≡ smp_out width phys.old permissions.old phy.0 carried changes request.now response.old set.old }
 {
     let room = (1020 <= response.len()) & (16 <= set.len());
-    let no = smp_refusal(width, phys, permissions, phy, carried, request, room);
-    if no != 0 {
-        return Answered::Refused(no);
-    }
+    check_smp(width, phys, permissions, phy, carried, request, room)?;
     let ruled = rules::rule(
         width,
         phys,
@@ -83,7 +81,11 @@ pub fn smp_at(
         response,
         set,
     );
-    Answered::Replied(ruled.result, ruled.written, wire::phys_in(set))
+    Ok(Answered {
+        result: ruled.result,
+        length: ruled.written,
+        told: wire::phys_in(set),
+    })
 }
 
 // Document 01's shelf.
@@ -96,7 +98,7 @@ pub fn smp(
     request: &[u8],
     response: &mut [u8],
     set: &mut [u8],
-) -> Answered
+) -> Result<Answered, Refusal>
     ensures { out (answered_as result) (phys.new ∷ permissions.new ∷ response.new ∷ set.new ∷ []) ≡ smp_out 16 phys.old permissions.old phy.0 carried changes request.now response.old set.old }
 {
     smp_at(

@@ -10,7 +10,10 @@ built_length (Err e) = 0
 built_length (Ok m) = m
 
 -- rows of a report that was read
+abbrev pub said_rows : Heard → ℕ
+said_rows (told.Result f r) = 0
+said_rows (told.Rows s k) = k
+
 abbrev pub heard_rows : Result Heard Refusal → ℕ
 heard_rows (Err e) = 0
-heard_rows (Ok (told.Result f r)) = 0
-heard_rows (Ok (told.Rows s k)) = k
+heard_rows (Ok h) = said_rows h

@@ -5,7 +5,7 @@
 ghost use Rattle.std.specs.Prelude.{◌≡◌, ◌+◌, ◌*◌, ◌<◌, ◌≤◌, length};
 ghost use Rattle.lines.specs.Text.{decimal};
 ghost use Rattle.lines.specs.Written.{Wrote};
-ghost use Rattle.warden_text.specs.Room.{built_length, heard_rows};
+ghost use Rattle.warden_text.specs.Room.{built_length, said_rows, heard_rows};
 
 use console_orders::Refusal;
 use console_reading::Heard;
@@ -273,14 +273,24 @@ fn put_rows(start: u8, count: u8, rows: &[u8], text: &mut [u8]) -> usize
     at
 }
 
+// What a response says.
+fn put_said(heard: Heard, rows: &[u8], text: &mut [u8]) -> usize
+    requires { (128 * said_rows heard ≤ length rows.now) × (length rows.now ≤ 8064) × (65536 ≤ length text.old) }
+    ensures { result ≤ length text.new }
+{
+    match heard {
+        Heard::Result(function, result) => put_result(function, result, text),
+        Heard::Rows(start, count) => put_rows(start, count, rows, text),
+    }
+}
+
 pub fn put_heard(heard: Result<Heard, Refusal>, rows: &[u8], number: u64, text: &mut [u8]) -> usize
     requires { (128 * heard_rows heard ≤ length rows.now) × (length rows.now ≤ 8064) × (65536 ≤ length text.old) }
     ensures { result ≤ length text.new }
 {
     match heard {
         Err(refusal) => put_refusal(refusal, number, text),
-        Ok(Heard::Result(function, result)) => put_result(function, result, text),
-        Ok(Heard::Rows(start, count)) => put_rows(start, count, rows, text),
+        Ok(said) => put_said(said, rows, text),
     }
 }
 

@@ -1,6 +1,6 @@
 -- C1h: the checks by operation, and what an accepted request leaves.
 -- Assumes nothing.
-use mathlib.Core.Path.{◌≡◌, refl, sym, ◌∙◌}
+use mathlib.Core.Path.{◌≡◌, refl, sym}
 use mathlib.Core.Bool.{Bool, true, false, not, cond, ◌&&◌}
 use mathlib.Core.List.{List, [], ◌∷◌, ◌++◌}
 use Prim.Native.Nat.{ℕ, zero, suc, ◌+◌, ◌*◌, ◌%◌, ◌≤◌, ◌<◌}
@@ -17,15 +17,8 @@ use Rattle.tables.specs.Refusals.{first_refusal}
 use Rattle.tables.specs.Phys.{ready_set, empty_set}
 use Rattle.tables.proofs.RefusalLaws.{clear, agrees_not}
 use Rattle.requests.specs.Requests.{right, Leaves}
-use Rattle.requests.proofs.RequestLaws.{leaves_down, leaves_done}
+use Rattle.requests.proofs.RequestLaws.{leaves_done}
 use Rattle.zone_permission.specs.ZonePermission.{operation, source, target, new_value, start_row, row_count, single_checks, batch_checks, operation_checks, permission_checks, orders_of, Accepted, permission_set, permission_reply}
-
--- ---- whether a batch names group 0 or 1
-pub low_none : (start count : ℕ) → 2 ≤ start → false ≡ (ltb start 2 && ltb 0 count)
-low_none start count h = rw (le-ltb start 2 h)
-
-pub low_some : (start count : ℕ) → start < 2 → ltb 0 count ≡ (ltb start 2 && ltb 0 count)
-low_some start count h = rw (lt-ltb start 2 h)
 
 -- ---- one past the last group that a batch names
 pub ends_none : (start count : ℕ) → count ≡ 0 → 0 ≡ rows_end start count
@@ -61,11 +54,11 @@ then_operation w phys permissions phy carried request r x e h el l er =
     rw (agrees_not e h, eq-eqb (length request) (4 + 4 * get_or request 3 0) el, le-ltb (length request) 12 l) er
 
 -- ---- what is known of an accepted request
-pub accepted : (w : ℕ) (phys permissions : List ℕ) (phy carried : ℕ) (request : List ℕ) (r : ℕ) → r ≡ first_refusal (permission_checks w phys permissions phy carried request)
-    → r ≡ 0 → Accepted w request
+pub accepted : (w : ℕ) (phys permissions : List ℕ) (phy carried : ℕ) (request : List ℕ) → 0 ≡ first_refusal (permission_checks w phys permissions phy carried request)
+    → Accepted w request
 unfolding first_refusal
-accepted w phys permissions phy carried request r e z =
-    go (not (right w phys permissions phy carried)) (eqb (length request) (4 + 4 * get_or request 3 0)) (ltb (length request) 12) refl (sym z ∙ e)
+accepted w phys permissions phy carried request e =
+    go (not (right w phys permissions phy carried)) (eqb (length request) (4 + 4 * get_or request 3 0)) (ltb (length request) 12) refl e
   where
     go : (a b c : Bool) → c ≡ ltb (length request) 12 → 0 ≡ cond a 1 (cond (not b) 3 (cond c 3 (first_refusal (operation_checks w request)))) → Accepted w request
     go true b c ec h = absurd (omega arith)
@@ -146,27 +139,12 @@ module _ (phys request s t : List ℕ) where
   sets_empty n h = rw (ne_eqb (get_or request 9 0 % 2) 1 n) h
 
 -- ---- the accepted end of the rule
-pub leaves_orders : (w : ℕ) (phys permissions : List ℕ) (phy carried : ℕ) (request response set permissions₁ response₁ set₁ : List ℕ) (r : ℕ)
-    → r ≡ first_refusal (permission_checks w phys permissions phy carried request) → r ≡ 0
+pub leaves_orders : (w : ℕ) (phys permissions : List ℕ) (phy carried : ℕ) (request response set permissions₁ response₁ set₁ : List ℕ)
+    → 0 ≡ first_refusal (permission_checks w phys permissions phy carried request)
     → permissions₁ ≡ apply w (orders_of w request) permissions
-    → response₁ ≡ (0x41 ∷ 0xc1 ∷ r ∷ 0 ∷ []) ++ drop 4 response → set₁ ≡ permission_set phys request ++ drop 16 set
-    → Leaves 0xc1 (permission_reply w phys permissions phy carried request) response set r 4 phys permissions₁ response₁ set₁
+    → response₁ ≡ (0x41 ∷ 0xc1 ∷ 0x00 ∷ 0 ∷ []) ++ drop 4 response → set₁ ≡ permission_set phys request ++ drop 16 set
+    → Leaves 0xc1 (permission_reply w phys permissions phy carried request) response set 0x00 4 phys permissions₁ response₁ set₁
 unfolding permission_reply
-leaves_orders w phys permissions phy carried request response set permissions₁ response₁ set₁ r e z ep er es =
-    leaves_done 0xc1 r _ e _ phys permissions response set response₁ set₁ 4 phys permissions₁ z (record {
-      answered = z;
-      counted = refl;
-      phys_then = refl;
-      permissions_then = ep;
-      responded = rw z at er;
-      told = es;
-    })
-
--- the end of a rule that turns the request down
-pub leaves_unchanged : (w : ℕ) (phys permissions : List ℕ) (phy carried : ℕ) (request response set response₁ set₁ : List ℕ) (r : ℕ)
-    → r ≡ first_refusal (permission_checks w phys permissions phy carried request) → (r ≡ 0 → ⊥)
-    → response₁ ≡ (0x41 ∷ 0xc1 ∷ r ∷ 0 ∷ []) ++ drop 4 response → set₁ ≡ empty_set ++ drop 16 set
-    → Leaves 0xc1 (permission_reply w phys permissions phy carried request) response set r 4 phys permissions response₁ set₁
-unfolding permission_reply
-leaves_unchanged w phys permissions phy carried request response set response₁ set₁ r e h er es =
-    leaves_down 0xc1 r _ e _ phys permissions response set response₁ set₁ h er es
+leaves_orders w phys permissions phy carried request response set permissions₁ response₁ set₁ e ep er es =
+    leaves_done 0xc1 _ _ phys permissions response set 0x00 4 phys permissions₁ response₁ set₁ e
+    (record { answered = refl; counted = refl; phys_then = refl; permissions_then = ep; responded = er; told = es })

@@ -1,6 +1,6 @@
 -- 51h: how many rows are reported, how long the response is, what its bytes are, and what an accepted request leaves.
 -- Assumes nothing.
-use mathlib.Core.Path.{◌≡◌, refl, ap, ◌∙◌}
+use mathlib.Core.Path.{◌≡◌, refl, sym, ap, ◌∙◌}
 use mathlib.Core.List.{List, [], ◌∷◌, ◌++◌}
 use Prim.Native.Nat.{ℕ, ◌+◌, ◌*◌, ◌/◌, ◌≤◌}
 use native.Mathlib.Decide.{ℕ_discrete}
@@ -12,8 +12,14 @@ use Rattle.shown_rows.proofs.ShownLaws.{length-shown}
 use Rattle.tables.specs.Refusals.{first_refusal}
 use Rattle.tables.specs.Phys.{empty_set}
 use Rattle.tables.proofs.RefusalLaws.{clear}
+use Rattle.std.proofs.Common.{Result, Err}
+use Rattle.std.specs.Prelude.{⊤}
+use Rattle.requests.specs.declared.FunctionResult.{FunctionResult}
+use Rattle.requests.specs.declared.FunctionResult.TheVariants.{Accepted}
+use Rattle.requests.specs.Results.{number}
 use Rattle.requests.specs.Requests.{Leaves}
 use Rattle.requests.proofs.RequestLaws.{turns_down, accepts, leaves_done}
+use Rattle.requests.proofs.ResultLaws.{number_down}
 use Rattle.zone_report.specs.ZoneReport.{start_row, report_checks, row_count, rows, report_reply}
 
 -- ---- how many rows
@@ -59,41 +65,47 @@ written w permissions request response head response₁ count l ec eh e =
     ∙ pasted (0x41 ∷ 0x51 ∷ 0x00 ∷ (2 + 4 * count) ∷ 0 ∷ 0 ∷ start_row request ∷ count ∷ 0 ∷ 0 ∷ 0 ∷ 0 ∷ []) from response (16 * count) refl
     ∙ rw (take_all (16 * count) from (omega (arith, length-shown w permissions (start_row request) count)), ec)
 
--- ---- what the rule gives, with r the result that its checks answered
-module _ (w : ℕ) (phys permissions : List ℕ) (phy carried : ℕ) (request : List ℕ) (r : ℕ) (e : r ≡ first_refusal (report_checks w phys permissions phy carried request)) where
-  -- where it is accepted, the request has its eight bytes, and start is a group
-  pub report_long : r ≡ 0 → 8 ≤ length request
-  report_long z = let k = clear (report_checks w phys permissions phy carried request) r e z tt in omega arith
+-- ---- what the rule gives: where it turns the request down, nothing behind the head
+pub rest_down : (w : ℕ) (phys permissions : List ℕ) (phy carried : ℕ) (request : List ℕ) (r : ℕ)
+    → r ≡ first_refusal (report_checks w phys permissions phy carried request) → (r ≡ 0 → ⊥)
+    → length (report_reply w phys permissions phy carried request).rest ≡ 0
+unfolding report_reply
+rest_down w phys permissions phy carried request r e h = rw (← turns_down _ _ phys permissions r e h)
 
-  pub report-start : r ≡ 0 → start_row request ≤ 127
-  report-start z = let k = clear (report_checks w phys permissions phy carried request) r e z tt in omega arith
+pub dwords_down : (w : ℕ) (phys permissions : List ℕ) (phy carried : ℕ) (request : List ℕ) (e : FunctionResult)
+    → number e ≡ first_refusal (report_checks w phys permissions phy carried request) → (◌≡◌ {A = Result ⊤ FunctionResult} (Err e) (Err Accepted) → ⊥)
+    → 0 ≡ length (report_reply w phys permissions phy carried request).rest / 4
+dwords_down w phys permissions phy carried request e en h =
+    rw (rest_down w phys permissions phy carried request (number e) en (number_down e h))
 
-  pub rest_down : (r ≡ 0 → ⊥) → length (report_reply w phys permissions phy carried request).rest ≡ 0
+-- and where its checks answer nothing
+module _ (w : ℕ) (phys permissions : List ℕ) (phy carried : ℕ) (request : List ℕ) (e : 0 ≡ first_refusal (report_checks w phys permissions phy carried request)) where
+  -- the request has its eight bytes, and start is a group
+  pub report_long : 8 ≤ length request
+  report_long = let k = clear (report_checks w phys permissions phy carried request) 0 e refl tt in omega arith
+
+  pub report-start : start_row request ≤ 127
+  report-start = let k = clear (report_checks w phys permissions phy carried request) 0 e refl tt in omega arith
+
+  pub rest_rows : length (report_reply w phys permissions phy carried request).rest ≡ 8 + 16 * row_count request
   unfolding report_reply
-  rest_down h = rw (← turns_down r _ e _ phys permissions h)
+  rest_rows = rw (← accepts _ _ phys permissions e) (length-rows w permissions request)
 
-  pub rest_rows : r ≡ 0 → length (report_reply w phys permissions phy carried request).rest ≡ 8 + 16 * row_count request
-  unfolding report_reply
-  rest_rows z = rw (← accepts r _ e _ phys permissions z) (length-rows w permissions request)
+  pub dwords_rows : (count : ℕ) → count ≡ row_count request → 2 + 4 * count ≡ length (report_reply w phys permissions phy carried request).rest / 4
+  dwords_rows count ec = rw rest_rows (omega arith)
 
-  pub dwords_down : (r ≡ 0 → ⊥) → 0 ≡ length (report_reply w phys permissions phy carried request).rest / 4
-  dwords_down h = rw (rest_down h)
-
-  pub dwords_rows : (count : ℕ) → r ≡ 0 → count ≡ row_count request → 2 + 4 * count ≡ length (report_reply w phys permissions phy carried request).rest / 4
-  dwords_rows count z ec = rw (rest_rows z) (omega arith)
-
-  pub report_done : (count : ℕ) (response set response₁ set₁ : List ℕ) → r ≡ 0 → count ≡ row_count request
+  pub report_done : (count : ℕ) (response set response₁ set₁ : List ℕ) → count ≡ row_count request
       → response₁ ≡ (0x41 ∷ 0x51 ∷ 0x00 ∷ (2 + 4 * row_count request) ∷ rows w permissions request) ++ drop (12 + 16 * row_count request) response
       → set₁ ≡ empty_set ++ drop 16 set
-      → Leaves 0x51 (report_reply w phys permissions phy carried request) response set r (12 + 16 * count) phys permissions response₁ set₁
+      → Leaves 0x51 (report_reply w phys permissions phy carried request) response set 0x00 (12 + 16 * count) phys permissions response₁ set₁
   unfolding report_reply
-  report_done count response set response₁ set₁ z ec er es =
+  report_done count response set response₁ set₁ ec er es =
       let l = length-rows w permissions request in
       let dwords : length (rows w permissions request) / 4 ≡ 2 + 4 * row_count request = omega arith in
       let all : 4 + length (rows w permissions request) ≡ 12 + 16 * row_count request = omega arith in
-      leaves_done 0x51 r _ e _ phys permissions response set response₁ set₁ (12 + 16 * count) phys permissions z
+      leaves_done 0x51 _ _ phys permissions response set 0x00 (12 + 16 * count) phys permissions response₁ set₁ e
       (record {
-        answered = z;
+        answered = refl;
         counted = omega arith;
         phys_then = refl;
         permissions_then = refl;
@@ -107,5 +119,5 @@ pub report_dwords_most : (w : ℕ) (phys permissions : List ℕ) (phy carried : 
 report_dwords_most w phys permissions phy carried request = go (ℕ_discrete (first_refusal (report_checks w phys permissions phy carried request)) 0)
   where
     go : Dec (first_refusal (report_checks w phys permissions phy carried request) ≡ 0) → length (report_reply w phys permissions phy carried request).rest / 4 ≤ 254
-    go (yes z) = omega (arith, rest_rows w phys permissions phy carried request _ refl z, rows_most request)
+    go (yes z) = omega (arith, rest_rows w phys permissions phy carried request (sym z), rows_most request)
     go (no h) = omega (arith, rest_down w phys permissions phy carried request _ refl h)

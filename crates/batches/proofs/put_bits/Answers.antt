@@ -7,7 +7,7 @@ pub loop-k-init : goal.loop-k-init
 loop-k-init c = search bits_start
 
 pub loop-k-preserved : goal.loop-k-preserved
-loop-k-preserved c = (search bits_again, omega arith)
+loop-k-preserved c = search bits_again
 
 pub returns : goal.returns
-returns c = search bits_done
+returns c = bits_done _ _ _ _ _ _ _ _ (omega arith) (omega arith) c.loop-k.invariant (omega arith)

@@ -1,10 +1,6 @@
 -- `phy_zone::all_sound` meets its contract: the descriptors passed are sound.
-use Prim.Native.Nat.{◌-◌}
 use Rattle.phy_zone.proofs.PhyZoneLaws.{Judged}
 use Rattle.phy_zone.proofs.all_sound.Given as goal
 
 abbrev pub invariant-loop-judged : goal.invariant-loop-judged
 invariant-loop-judged l = Judged l.width l.request l.k l.judged
-
-abbrev pub decreases-loop-judged : goal.decreases-loop-judged
-decreases-loop-judged l = l.k - l.judged

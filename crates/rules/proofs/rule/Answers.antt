@@ -15,4 +15,4 @@ pub returns-in-16 : goal.returns-in-16
 returns-in-16 c = search leaves_10
 
 pub returns-in_default : goal.returns-in_default
-returns-in_default c = search leaves_none
+returns-in_default c = search (leaves_none, c.turn_down.ensures)

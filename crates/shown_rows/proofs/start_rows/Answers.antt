@@ -5,10 +5,10 @@ use Rattle.shown_rows.proofs.ShownLaws.{rows_again}
 use Rattle.shown_rows.proofs.start_rows.Goals as goal
 
 pub loop-k-init : goal.loop-k-init
-loop-k-init c = (between_start _ _ _ (omega arith), omega arith)
+loop-k-init c = between_start _ _ _ (omega arith)
 
 pub loop-k-preserved : goal.loop-k-preserved
-loop-k-preserved c = (search rows_again, omega arith)
+loop-k-preserved c = search rows_again
 
 pub returns : goal.returns
-returns c = between_done _ _ _ _ _ _ (omega arith) (omega arith) c.loop-k.invariant.0
+returns c = between_done _ _ _ _ _ _ (omega arith) (omega arith) c.loop-k.invariant

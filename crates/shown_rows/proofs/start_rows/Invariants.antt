@@ -1,11 +1,8 @@
 -- `shown_rows::start_rows` meets its contract: the first k rows are start-up's.
-use Prim.Native.Nat.{◌+◌, ◌-◌, ◌*◌, ◌≤◌}
+use Prim.Native.Nat.{◌+◌, ◌*◌}
 use Rattle.permit.specs.Start.{Between}
 use Rattle.shown_rows.specs.Inner.{start_rows}
 use Rattle.shown_rows.proofs.start_rows.Given as goal
 
 abbrev pub invariant-loop-k : goal.invariant-loop-k
-invariant-loop-k l = Between (start_rows l.start 12) 12 l.initial.response l.response (12 + 16 * l.k) × (l.k ≤ l.count)
-
-abbrev pub decreases-loop-k : goal.decreases-loop-k
-decreases-loop-k l = l.count - l.k
+invariant-loop-k l = Between (start_rows l.start 12) 12 l.initial.response l.response (12 + 16 * l.k)

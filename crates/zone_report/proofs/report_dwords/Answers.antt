@@ -2,11 +2,11 @@
 use Rattle.zone_report.proofs.ReportLaws.{report_long, report-start, dwords_down, dwords_rows}
 use Rattle.zone_report.proofs.report_dwords.Goals as goal
 
-pub returns-then-report_result-ne0 : goal.returns-then-report_result-ne0
-returns-then-report_result-ne0 c = search dwords_down
+pub returns-in-Err : goal.returns-in-Err
+returns-in-Err c = dwords_down _ _ _ _ _ _ _ c.in-Err.ensures.number c.in-Err.ensures.turned_down
 
 pub row_count-requires : goal.row_count-requires
-row_count-requires c = search (report_long, report-start)
+row_count-requires c = search (report_long, report-start, c.in-Ok.ensures.number)
 
-pub returns : goal.returns
-returns c = search dwords_rows
+pub returns-in-Ok : goal.returns-in-Ok
+returns-in-Ok c = search (dwords_rows, c.in-Ok.ensures.number)

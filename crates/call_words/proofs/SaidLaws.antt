@@ -1,6 +1,6 @@
 -- A call's words: its answer, as the code's enum has it, is what was put into the text.
 -- Assumes nothing.
-use mathlib.Core.Path.{◌≡◌, refl, sym, ap, ◌∙◌, subst}
+use mathlib.Core.Path.{◌≡◌, refl, ap, ◌∙◌, subst}
 use mathlib.Core.Bool.{cond}
 use mathlib.Core.List.{List, [], ◌∷◌}
 use Prim.Native.Nat.{ℕ, ◌+◌, ◌≤◌}
@@ -13,11 +13,6 @@ use Rattle.lines.specs.Words.{K, words, reply_words, link_words}
 use Rattle.lines.specs.Written.{Wrote}
 use Rattle.call_words.specs.Gives.{Given, unknown, given, answer_of, buffer, smp_left, link_left}
 use Rattle.call_words.specs.Inner.{Gave}
-
--- the words of x, which is y, by the map `known` to document 01's answers
-pub said_of : {E : Type 0} (known : E → Answer) (x y : E) (t : List ℕ) (at end : ℕ) (t₁ : List ℕ) (f : List ℕ → List ℕ)
-    → x ≡ y → Wrote t at (words f (known y)) end t₁ → Wrote t at (words f (known x)) end t₁
-said_of {E} known x y t at end t₁ f e w = subst (λ (z : E). Wrote t at (words f (known z)) end t₁) (sym e) w
 
 -- ---- a call's words, where a is its answer and o all that it leaves
 module _ (a : Answer) (t : List ℕ) (at end : ℕ) (t₁ : List ℕ) (o : Out) where

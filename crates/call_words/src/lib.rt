@@ -1,19 +1,20 @@
 // The words that each call gives at the bench, put into a text.
 #![tactic(auto)]
 
-ghost use Rattle.std.specs.Prelude.{cond, List, ℕ, ◌+◌, ◌≤◌, eqb, length};
+ghost use Rattle.std.specs.Prelude.{cond, List, ◌∷◌, ℕ, ◌+◌, ◌≤◌, eqb, length};
+ghost use Rattle.tables.specs.Numbers.{number};
 ghost use Rattle.links.specs.Links.{linked_as};
+ghost use Rattle.opens.specs.Open.{values_of};
 ghost use Rattle.broadcasts.specs.Broadcasts.{told_as};
-ghost use Rattle.lines.specs.Words.{words, told_words, link_words};
+ghost use Rattle.lines.specs.Text.{space, decimal};
+ghost use Rattle.lines.specs.Words.{X, words, outcome_words, told_words, link_words};
 ghost use Rattle.lines.specs.Written.{Wrote};
 ghost use Rattle.call_words.specs.Gives.{smp_gives, open_gives, primitive_gives, broadcast_gives, identify_gives, leaving_gives, unknown};
 ghost use Rattle.call_words.specs.Inner.{Gave};
 
-use broadcasts::Told;
 use discover::Changes;
-use links::Linked;
 use opens::Opened;
-use smp::Answered;
+use tables::refusal::Refusal;
 use wire::PhyNumber;
 
 // The type of every device that is attached at the bench.
@@ -21,6 +22,14 @@ const DEVICE: u8 = 1;
 
 // Which of its phys is attached.
 const ATTACHED: u8 = 0;
+
+// The words of any call that is refused.
+fn refusal_words(refusal: Refusal, text: &mut [u8], at: usize) -> usize
+    requires { at + 31 ≤ length text.old }
+    ensures { Wrote text.old at (X ∷ space ∷ decimal (number refusal)) result text.new × (result ≤ at + 31) }
+{
+    lines::put_count(b'X', u8::from(refusal), text, at)
+}
 
 // The words of an SMP request. The bench counts no changes.
 pub fn smp_words(
@@ -51,8 +60,21 @@ pub fn smp_words(
         &mut set,
     );
     match answered {
-        Answered::Refused(n) => lines::put_count(b'X', n, text, at),
-        Answered::Replied(result, bytes, told) => lines::put_reply(result, bytes, told, text, at),
+        Ok(a) => lines::put_reply(u8::from(a.result), a.length, a.told, text, at),
+        Err(refusal) => refusal_words(refusal, text, at),
+    }
+}
+
+// The words of what becomes of an OPEN that is not refused.
+fn outcome_words(outcome: Opened, text: &mut [u8], at: usize) -> usize
+    requires { at + 31 ≤ length text.old }
+    ensures { Wrote text.old at (outcome_words (values_of outcome)) result text.new × (result ≤ at + 31) }
+{
+    match outcome {
+        Opened::NoDestination => lines::put_bytes(b"O ND", text, at),
+        Opened::BadDestination => lines::put_bytes(b"O BD", text, at),
+        Opened::ZoneViolation => lines::put_bytes(b"O ZV", text, at),
+        Opened::Forward(phy) => lines::put_forward(phy.0, text, at),
     }
 }
 
@@ -72,22 +94,19 @@ pub fn open_words(
     let mut frame = [0u8; 28];
     let opened = opens::open(phys, &routes, permissions, phy, payload, &mut frame);
     match opened {
-        Opened::Refused(n) => lines::put_count(b'X', n, text, at),
-        Opened::NoDestination => lines::put_bytes(b"O ND", text, at),
-        Opened::BadDestination => lines::put_bytes(b"O BD", text, at),
-        Opened::ZoneViolation => lines::put_bytes(b"O ZV", text, at),
-        Opened::Forward(p) => lines::put_forward(p.0, text, at),
+        Ok(outcome) => outcome_words(outcome, text, at),
+        Err(refusal) => refusal_words(refusal, text, at),
     }
 }
 
 // The words of what either broadcast call answers.
-fn told_words(told: Told, text: &mut [u8], at: usize) -> usize
+fn told_words(told: Result<u8, Refusal>, text: &mut [u8], at: usize) -> usize
     requires { at + 31 ≤ length text.old }
     ensures { Wrote text.old at (words told_words (told_as told)) result text.new × (result ≤ at + 31) }
 {
     match told {
-        Told::Refused(n) => lines::put_count(b'X', n, text, at),
-        Told::Count(n) => lines::put_count(b'B', n, text, at),
+        Ok(n) => lines::put_count(b'B', n, text, at),
+        Err(refusal) => refusal_words(refusal, text, at),
     }
 }
 
@@ -131,13 +150,13 @@ pub fn frame_words(
 }
 
 // The words of what either link call answers.
-fn linked_words(linked: Linked, text: &mut [u8], at: usize) -> usize
+fn linked_words(linked: Result<(), Refusal>, text: &mut [u8], at: usize) -> usize
     requires { at + 31 ≤ length text.old }
     ensures { Wrote text.old at (words link_words (linked_as linked)) result text.new × (result ≤ at + 31) }
 {
     match linked {
-        Linked::Refused(n) => lines::put_count(b'X', n, text, at),
-        Linked::Done => lines::put_byte(b'L', text, at),
+        Ok(()) => lines::put_byte(b'L', text, at),
+        Err(refusal) => refusal_words(refusal, text, at),
     }
 }
 

@@ -9,7 +9,7 @@ ghost use Rattle.rack.specs.Rack.{bytes_of, rack_table};
 
 use tables::PHY_RECORD;
 
-#[derive(Clone, Copy)]
+#[derive(Clone, Copy, Debug, PartialEq, Eq)]
 pub struct PhyRecord {
     pub first: u8,
     pub group: u8,
@@ -86,10 +86,8 @@ fn start_rack(phys: &mut [u8])
     requires { length phys.old ≡ 8 * phy_record }
     ensures { phys.new ≡ rack_table }
 {
-    let mut i: usize = 0;
-    while i < 8 {
-        store(phys, i * PHY_RECORD, RACK[i]);
-        i += 1;
+    for (i, record) in RACK.iter().enumerate() {
+        store(phys, i * PHY_RECORD, *record);
     }
 }
 

@@ -2,34 +2,33 @@
 // takes, so that the first bytes of a longer one are not taken for a whole input.
 #![tactic(auto)]
 
-ghost use Rattle.std.specs.Prelude.{◌<◌, ◌≤◌, length, take, IsTrue};
+ghost use Rattle.std.specs.Prelude.{◌<◌, ◌≤◌, length, take, IfOk};
 ghost use Rattle.std.specs.Io.KnownBytes.{Consumes, IsAtEnd};
+ghost use Rattle.whole_input.specs.Taken.{had};
 
 use std::io::{Read, Write};
 
-// How many bytes were read, and whether the input was read to its end or the array's.
-#[derive(Clone, Copy)]
-pub struct Taken {
+// A read failed, and what is there, so many bytes, is not the input.
+#[derive(Clone, Copy, Debug, PartialEq, Eq)]
+pub struct Unreadable {
     pub have: usize,
-    pub whole: bool,
 }
 
-// Reads behind what is there, until a read brings nothing. Where one fails, what is there is not the input.
-pub fn take_input<R: Read>(reader: &mut R, input: &mut [u8]) -> Taken
-    ensures within { result.have ≤ length input.new }
-    ensures read { Consumes (R.remaining reader.old) (R.remaining reader.new) (take result.have input.new) }
-    ensures end { IsTrue result.whole → result.have < length input.new → IsAtEnd (R.remaining reader.new) }
+// Reads behind what is there, until a read brings nothing: answers how many bytes were read, to the input's end or to the array's.
+pub fn take_input<R: Read>(reader: &mut R, input: &mut [u8]) -> Result<usize, Unreadable>
+    ensures within { had result ≤ length input.new }
+    ensures read { Consumes (R.remaining reader.old) (R.remaining reader.new) (take (had result) input.new) }
+    ensures end { IfOk result (λ have. have < length input.new → IsAtEnd (R.remaining reader.new)) }
 {
-    let end = input.len();
     let mut have: usize = 0;
-    while have < end {
+    while have < input.len() {
         match reader.read(&mut input[have..]) {
-            Ok(0) => return Taken { have, whole: true },
+            Ok(0) => return Ok(have),
             Ok(more) => have += more,
-            Err(_) => return Taken { have, whole: false },
+            Err(_) => return Err(Unreadable { have }),
         }
     }
-    Taken { have, whole: true }
+    Ok(have)
 }
 
 // Says that a read failed; where that cannot be written either, nothing is left to say it on.

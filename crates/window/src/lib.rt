@@ -12,11 +12,7 @@ pub fn keep(window: &mut [u8], from: usize, n: usize)
     requires { from + n ≤ length window.old }
     ensures { window.new ≡ written window.old 0 (take n (drop from window.old)) }
 {
-    let mut i: usize = 0;
-    while i < n {
-        window[i] = window[from + i];
-        i += 1;
-    }
+    window.copy_within(from..from + n, 0);
 }
 
 // Moves the unread bytes to the front and reads once behind them. Answers how many bytes the window then has: the unread ones, and behind them what the reader
@@ -30,8 +26,5 @@ pub fn refill<R: Read>(reader: &mut R, window: &mut [u8], at: usize, have: usize
 {
     let n = have - at;
     keep(window, at, n);
-    match reader.read(&mut window[n..]) {
-        Ok(got) => n + got,
-        Err(_) => n,
-    }
+    n + reader.read(&mut window[n..]).unwrap_or(0)
 }

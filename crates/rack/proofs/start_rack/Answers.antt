@@ -1,11 +1,8 @@
 -- `rack::start_rack` meets its contract: the constant is the specification's rack.
-use Rattle.rack.proofs.Records.{stored_start, stored_again, stored_end}
+use Rattle.rack.proofs.Records.{stored_again, stored_end}
 use Rattle.rack.specs.Rack.{rack}
 use native.Mathlib.Omega.{arith}
 use Rattle.rack.proofs.start_rack.Goals as goal
-
-pub loop-i-init : goal.loop-i-init
-loop-i-init c = search stored_start
 
 pub loop-i-preserved : goal.loop-i-preserved
 unfolding rack

@@ -1,10 +1,6 @@
 -- `rack::start_rack` meets its contract: the constant is the specification's rack.
-use Prim.Native.Nat.{◌-◌}
 use Rattle.rack.proofs.Records.{Stored}
 use Rattle.rack.proofs.start_rack.Given as goal
 
 abbrev pub invariant-loop-i : goal.invariant-loop-i
 invariant-loop-i l = Stored l.initial.phys l.phys l.i
-
-abbrev pub decreases-loop-i : goal.decreases-loop-i
-decreases-loop-i l = 8 - l.i

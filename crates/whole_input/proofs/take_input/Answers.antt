@@ -19,4 +19,4 @@ pub loop-have-preserved : goal.loop-have-preserved
 loop-have-preserved g c =
     let l = c.loop-have in
     let joined = behind l.input c.read.new.buf l.have c.in-Ok.more (length l.input - l.have) (search rules) c.in-Ok.ensures.bound.0 in
-    (search rules, search rules, subst (Consumes _ _) (sym joined) (Consumes-trans _ _ _ _ _ l.invariant.2 c.in-Ok.ensures.bytes.0))
+    (search rules, subst (Consumes _ _) (sym joined) (Consumes-trans _ _ _ _ _ l.invariant.1 c.in-Ok.ensures.bytes.0))

@@ -1,21 +1,20 @@
 -- "Broadcasts": a primitive, or a broadcast frame, arrives on a phy. w is the permission table's row width in bytes.
-use Rattle.std.specs.Prelude.{Bool, true, cond, not, ◌&&◌, List, [], ◌∷◌, ◌++◌, ℕ, ◌+◌, ◌*◌, ◌/◌, ◌%◌, eqb, leb, length, get_or, drop}
+use Rattle.std.specs.Prelude.{Bool, true, cond, not, ◌&&◌, List, [], ◌∷◌, ◌++◌, ℕ, ◌+◌, ◌*◌, ◌/◌, ◌%◌, eqb, leb, length, get_or, drop, Result}
 use Rattle.wire.specs.Bits.{tab}
 use Rattle.wire.specs.Groups.{outside_group, is_group}
 use Rattle.wire.specs.PhySet.{phys_in}
 use Rattle.permit.specs.Permission.{permissions_sized}
 use Rattle.tables.specs.Refusals.{Check, refuse, below, same, differ, off, on, first_refusal}
-use Rattle.tables.specs.Outcome.{Answer, refusal, answer, Out, outcome}
+use Rattle.tables.specs.Outcome.{Answer, Out, outcome}
+use Rattle.tables.specs.Numbers.{answered}
+use Rattle.tables.specs.declared.refusal.Refusal.{Refusal}
 use Rattle.tables.specs.Phys.{phy_group, participating}
 use Rattle.tables.specs.Arrival.{arrival_checks}
 use Rattle.told_set.specs.ToldSet.{told_set}
-use Rattle.broadcasts.specs.declared.Told.{Told}
-use Rattle.broadcasts.specs.declared.Told.TheVariants.{Refused, Count}
 
 -- the answer in document 01's numbers
-abbrev pub told_as : Told → Answer
-told_as (Refused n) = refusal n
-told_as (Count n) = answer (n ∷ [])
+abbrev pub told_as : Result ℕ Refusal → Answer
+told_as = answered (λ n. n ∷ [])
 
 -- "a type 2h frame, written whole at every answer 0: byte 0 the number times 16 plus 2, byte 3 the source group, the other 26 bytes zero"
 -- Its byte k:

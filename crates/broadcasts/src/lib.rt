@@ -6,39 +6,33 @@ ghost use Rattle.permit.specs.Permission.{permissions_sized, Width};
 ghost use Rattle.tables.specs.Refusals.{first_refusal};
 ghost use Rattle.tables.specs.Arrival.{arrival_checks};
 ghost use Rattle.tables.specs.Outcome.{out};
+ghost use Rattle.tables.specs.Numbers.{refused};
 ghost use Rattle.tables.specs.Phys.{phy_group};
 ghost use Rattle.broadcasts.specs.Broadcasts.{told_as, frame_of, primitive_checks, primitive_out, announced, typed_length, type_checks, carried_checks, frame_source, frame_number, broadcast_out};
 ghost use Rattle.broadcasts.specs.Inner.{Lent, Announced};
 
 use tables::READY;
-use wire::{OutsideGroup, PhyNumber, ZoneGroup};
+use tables::refusal::Refusal;
+use wire::{PhyNumber, ZoneGroup};
 
-#[derive(Clone, Copy)]
-pub enum Told {
-    Refused(u8),
-    Count(u8),
-}
-
-fn primitive_refusal(
+// The refusals of a primitive, in document 01's order.
+fn check_primitive(
     width: usize,
     phys: &[u8],
     permissions: &[u8],
     phy: PhyNumber,
     number: u8,
     room: bool,
-) -> u8
+) -> Result<(), Refusal>
     requires { Width width }
-    ensures { result ≡ first_refusal (primitive_checks width phys.now permissions.now phy.0 number room) }
+    ensures { refused result ≡ first_refusal (primitive_checks width phys.now permissions.now phy.0 number room) }
 {
     let sizes = permit::permissions_sized(width, permissions);
-    let no = tables::arrival_refusal(phys, phy, sizes, room, READY);
-    if no != 0 {
-        return no;
-    }
+    tables::check_arrival(phys, phy, sizes, room, READY)?;
     if 7 < number {
-        return 5;
+        return Err(Refusal::WrongField);
     }
-    0
+    Ok(())
 }
 
 // The length that an arriving frame's type asks for.
@@ -46,46 +40,40 @@ fn typed_length(arrived: &[u8]) -> usize
     requires { 0 < length arrived.now }
     ensures { result ≡ typed_length arrived.now }
 {
-    let kind = arrived[0] % 16;
-    if kind == 2 {
-        return 28;
+    match arrived[0] % 16 {
+        2 => 28,
+        3 => 4,
+        _ => arrived.len(),
     }
-    if kind == 3 {
-        return 4;
-    }
-    arrived.len()
 }
 
 // What an arriving frame's length and type are refused for.
-fn frame_refusal(
+fn check_frame(
     width: usize,
     phys: &[u8],
     permissions: &[u8],
     phy: PhyNumber,
     arrived: &[u8],
     room: bool,
-) -> u8
+) -> Result<(), Refusal>
     requires { Width width }
-    ensures { result ≡ first_refusal (arrival_checks phys.now phy.0 (permissions_sized width permissions.now) room true ++ type_checks arrived.now) }
+    ensures { refused result ≡ first_refusal (arrival_checks phys.now phy.0 (permissions_sized width permissions.now) room true ++ type_checks arrived.now) }
 {
     let sizes = permit::permissions_sized(width, permissions);
-    let no = tables::arrival_refusal(phys, phy, sizes, room, READY);
-    if no != 0 {
-        return no;
-    }
+    tables::check_arrival(phys, phy, sizes, room, READY)?;
     if arrived.len() == 0 {
-        return 4;
+        return Err(Refusal::WrongLength);
     }
     if arrived.len() != typed_length(arrived) {
-        return 4;
+        return Err(Refusal::WrongLength);
     }
     if arrived[0] % 16 < 2 {
-        return 5;
+        return Err(Refusal::WrongField);
     }
     if 3 < arrived[0] % 16 {
-        return 5;
+        return Err(Refusal::WrongField);
     }
-    0
+    Ok(())
 }
 
 // The type 2h frame, written whole.
@@ -93,11 +81,7 @@ fn write_frame(number: u8, source: ZoneGroup, frame: &mut [u8])
     requires { (number < 8) × (28 ≤ length frame.old) }
     ensures { frame.new ≡ frame_of number source.0 ++ drop 28 frame.old }
 {
-    let mut k: usize = 0;
-    while k < 28 {
-        frame[k] = 0;
-        k += 1;
-    }
+    wire::clear(frame, 28);
     frame[0] = number * 16 + 2;
     frame[3] = source.0;
 }
@@ -149,21 +133,19 @@ fn relay_frame(
     arrived: &[u8],
     set: &mut [u8],
     frame: &mut [u8],
-) -> Told
+) -> Result<u8, Refusal>
     requires { Lent width phys.now permissions.now phy.0 set.old frame.old × (4 ≤ length arrived.now) }
     ensures { out (told_as result) (set.new ∷ frame.new ∷ []) ≡ announced width (first_refusal (carried_checks phys.now phy.0 arrived.now)) phys.now permissions.now phy.0 (frame_source arrived.now) (frame_number arrived.now) set.old frame.old }
 {
     if !tables::is_participating(phys, phy) {
-        return Told::Refused(6);
+        return Err(Refusal::NotParticipating);
     }
-    let OutsideGroup::Group(source) = wire::outside_group(arrived[3]) else {
-        return Told::Refused(5);
-    };
+    let source = wire::outside_group(arrived[3]).ok_or(Refusal::WrongField)?;
     let number = arrived[0] / 16 % 8;
-    Told::Count(announce(width, phys, permissions, phy, source, number, set, frame))
+    Ok(announce(width, phys, permissions, phy, source, number, set, frame))
 }
 
-// A primitive arrives on a phy; the permission table has rows of `width` bytes.
+// A primitive arrives on a phy: how many phys are told. The permission table has rows of `width` bytes.
 pub fn primitive_at(
     width: usize,
     phys: &[u8],
@@ -172,16 +154,13 @@ pub fn primitive_at(
     number: u8,
     set: &mut [u8],
     frame: &mut [u8],
-) -> Told
+) -> Result<u8, Refusal>
     requires { Width width }
     ensures { out (told_as result) (set.new ∷ frame.new ∷ []) ≡ primitive_out width phys.now permissions.now phy.0 number set.old frame.old }
 {
     let room = (16 <= set.len()) & (28 <= frame.len());
-    let no = primitive_refusal(width, phys, permissions, phy, number, room);
-    if no != 0 {
-        return Told::Refused(no);
-    }
-    Told::Count(relay_primitive(width, phys, permissions, phy, number, set, frame))
+    check_primitive(width, phys, permissions, phy, number, room)?;
+    Ok(relay_primitive(width, phys, permissions, phy, number, set, frame))
 }
 
 // A primitive arrives on a phy; the table is document 01's.
@@ -192,13 +171,13 @@ pub fn primitive(
     number: u8,
     set: &mut [u8],
     frame: &mut [u8],
-) -> Told
+) -> Result<u8, Refusal>
     ensures { out (told_as result) (set.new ∷ frame.new ∷ []) ≡ primitive_out 16 phys.now permissions.now phy.0 number set.old frame.old }
 {
     primitive_at(16, phys, permissions, phy, number, set, frame)
 }
 
-// A broadcast frame arrives on a phy; the permission table has rows of `width` bytes.
+// A broadcast frame arrives on a phy: how many phys are told. The permission table has rows of `width` bytes.
 pub fn broadcast_frame_at(
     width: usize,
     phys: &[u8],
@@ -207,15 +186,12 @@ pub fn broadcast_frame_at(
     arrived: &[u8],
     set: &mut [u8],
     frame: &mut [u8],
-) -> Told
+) -> Result<u8, Refusal>
     requires { Width width }
     ensures { out (told_as result) (set.new ∷ frame.new ∷ []) ≡ broadcast_out width phys.now permissions.now phy.0 arrived.now set.old frame.old }
 {
     let room = (16 <= set.len()) & (28 <= frame.len());
-    let no = frame_refusal(width, phys, permissions, phy, arrived, room);
-    if no != 0 {
-        return Told::Refused(no);
-    }
+    check_frame(width, phys, permissions, phy, arrived, room)?;
     relay_frame(width, phys, permissions, phy, arrived, set, frame)
 }
 
@@ -227,7 +203,7 @@ pub fn broadcast_frame(
     arrived: &[u8],
     set: &mut [u8],
     frame: &mut [u8],
-) -> Told
+) -> Result<u8, Refusal>
     ensures { out (told_as result) (set.new ∷ frame.new ∷ []) ≡ broadcast_out 16 phys.now permissions.now phy.0 arrived.now set.old frame.old }
 {
     broadcast_frame_at(16, phys, permissions, phy, arrived, set, frame)

@@ -6,7 +6,7 @@ use Prim.Native.Nat.{ℕ, zero, suc, ◌+◌, ◌*◌, ◌%◌, ◌<◌}
 use native.Mathlib.Nat.{add-zero}
 use native.Mathlib.Omega.{arith}
 use lib.ListN.{length, get_or}
-use Rattle.wire.specs.declared.OutsideGroup.TheVariants.{NoGroup}
+use Rattle.std.proofs.Common.{None}
 use Rattle.wire.specs.Address.{big_endian, address_at}
 use Rattle.wire.proofs.GroupLaws.{outside_none}
 use Rattle.tables.specs.Phys.{phy_count}
@@ -39,7 +39,7 @@ stood_reads r i s j h cs =
     rw (h 9 (omega arith), h 10 (omega arith), b)
 
 stood_passes : (r : List ℕ) (i : ℕ) → 127 < route_byte r i 9 → (cs : List Candidate) → stood r i cs ≡ cs
-stood_passes r i h cs = let g : route_group r i ≡ NoGroup = sym (outside_none (route_byte r i 9) h) in rw g
+stood_passes r i h cs = let g : route_group r i ≡ None = sym (outside_none (route_byte r i 9) h) in rw g
 
 route_walk : Walk (List Candidate) route_candidates stood
 unfolding route_candidates

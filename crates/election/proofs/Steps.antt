@@ -8,9 +8,10 @@ use native.Mathlib.Nat.{sub-zero}
 use native.Mathlib.Numerals.{add-one}
 use native.Mathlib.Omega.{arith}
 use borrow.Author.Tests.{lt-ltb, le-ltb, eq-eqb, ne_eqb, not-true, not-false}
+use Rattle.std.proofs.Common.{Ordering, Option, Some, None}
+use Rattle.std.proofs.lemmas.Bool.Decides.{nat_tests}
+use Rattle.std.specs.Ordering.{nat_cmp, ordering_then, ord_max}
 use Rattle.wire.specs.declared.ZoneGroup.{ZoneGroup}
-use Rattle.wire.specs.declared.OutsideGroup.{OutsideGroup}
-use Rattle.wire.specs.declared.OutsideGroup.TheVariants.{Group, NoGroup}
 use Rattle.wire.specs.Groups.{is_group}
 use Rattle.wire.proofs.Loops.{left}
 use lib.ListN.{length}
@@ -21,32 +22,21 @@ use Rattle.tables.proofs.RefusalLaws.{clear}
 use Rattle.tables.proofs.ArrivalLaws.{phys_records}
 use Rattle.election.specs.declared.Candidate.{Candidate}
 use Rattle.election.specs.Election.{fit, candidate, phy_candidate, phy_candidates, route_candidate, route_candidates, beats, better, best, nobody, elect_checks}
+use Rattle.election.proofs.ElectionLaws.{candidate-same}
 
 -- ---- `elect`: where nothing is refused, the phy table has 128 records at most
-pub elect_most : (phys routes : List ℕ) (r : ℕ) → r ≡ first_refusal (elect_checks phys routes) → r ≡ 0 → length phys ≤ 128 * phy_record
-elect_most phys routes r e z = (phys_records phys (not-false (phys_sized phys) (clear (elect_checks phys routes) r e z tt).0)).1
+pub elect_most : (phys routes : List ℕ) → 0 ≡ first_refusal (elect_checks phys routes) → length phys ≤ 128 * phy_record
+elect_most phys routes e = (phys_records phys (not-false (phys_sized phys) (clear (elect_checks phys routes) 0 e refl tt).0)).1
 
--- the better of b and the candidate of priority p and address a, as the functions are handed it
-abbrev pub better_of : Candidate → ℕ → ℕ → Candidate
-better_of b p a = better (record { priority = p; address = a }) b
+-- ---- `update`: the derived order is that of the candidates
+abbrev pub by_fields : Candidate → Candidate → Ordering
+by_fields c d = ordering_then (nat_cmp c.priority d.priority) (nat_cmp c.address d.address)
 
--- ---- `better`
-module _ (b : Candidate) (p a : ℕ) where
-  pub above : b.priority < p → record { priority = p; address = a } ≡ better (record { priority = p; address = a }) b
-  unfolding beats
-  above h = rw (lt-ltb _ _ h)
-
-  pub tie : p ≤ b.priority → b.priority ≡ p → b.address < a → record { priority = p; address = a } ≡ better (record { priority = p; address = a }) b
-  unfolding beats
-  tie l e h = rw (le-ltb _ _ l, eq-eqb _ _ e, lt-ltb _ _ h)
-
-  pub tie_less : p ≤ b.priority → b.priority ≡ p → a ≤ b.address → b ≡ better (record { priority = p; address = a }) b
-  unfolding beats
-  tie_less l e h = rw (le-ltb _ _ l, eq-eqb _ _ e, le-ltb _ _ h)
-
-  pub less : p ≤ b.priority → (b.priority ≡ p → ⊥) → b ≡ better (record { priority = p; address = a }) b
-  unfolding beats
-  less l e = rw (le-ltb _ _ l, ne_eqb _ _ e)
+pub greater : (r b c : Candidate) → r ≡ ord_max by_fields b c → r ≡ better c b
+unfolding beats
+greater r b c e =
+    let one : b.priority ≡ c.priority → b.address ≡ c.address → b ≡ c = candidate-same b c in
+    grind (arith, nat_tests)
 
 -- ---- `consider`
 pub no_address : (b : Candidate) (p a : ℕ) → 0 < p → a ≡ 0 → b ≡ best b (candidate (fit p a) p a)
@@ -60,8 +50,11 @@ stands b r p a h n e = rw (lt-ltb 0 p h, ne_eqb a 0 n) e
 
 -- ---- both steps: a record of a lower priority than b is not elected, whether it stands or not
 pub lower : (b : Candidate) (v : Bool) (q p a : ℕ) → q ≡ p → q < b.priority → b ≡ best b (candidate v p a)
-unfolding best
-lower b true q p a e h = less b p a (omega arith) (λ i. omega arith)
+unfolding best beats
+lower b true q p a e h =
+    let l : p ≤ b.priority = omega arith in
+    let n : b.priority ≡ p → ⊥ = λ i. omega arith in
+    rw (le-ltb _ _ l, ne_eqb _ _ n)
 lower b false q p a e h = refl
 
 -- nor is one of priority 0
@@ -81,11 +74,11 @@ pub phy_considered : (b r : Candidate) (k v : Bool) (q x p a : ℕ) → k ≡ v 
 phy_considered b r k v q x p a e h i j g = let t : k ≡ true = not-false k h in rw (← e, t, ← i, ← j) g
 
 -- ---- `with_route`, where o is what its group byte names
-pub no_group : (b : Candidate) (o m : OutsideGroup) (w : Bool) (p a : ℕ) → o ≡ m → o ≡ NoGroup → b ≡ best b (candidate (is_group m && w) p a)
+pub no_group : (b : Candidate) (o m : Option ZoneGroup) (w : Bool) (p a : ℕ) → o ≡ m → o ≡ None → b ≡ best b (candidate (is_group m && w) p a)
 unfolding best
 no_group b o m w p a e n = rw (← e, n)
 
-pub route_considered : (b r : Candidate) (o m : OutsideGroup) (g : ZoneGroup) (q x p a : ℕ) → o ≡ m → o ≡ Group g → q ≡ p → x ≡ a
+pub route_considered : (b r : Candidate) (o m : Option ZoneGroup) (g : ZoneGroup) (q x p a : ℕ) → o ≡ m → o ≡ Some g → q ≡ p → x ≡ a
     → r ≡ best b (candidate (fit q x) q x)
     → r ≡ best b (candidate (is_group m && fit p a) p a)
 route_considered b r o m g q x p a e s i j k = rw (← e, s, ← i, ← j) k

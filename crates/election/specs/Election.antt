@@ -1,19 +1,19 @@
 -- The elected supervisor.
-use Rattle.std.specs.Prelude.{◌≡◌, Bool, false, cond, not, ◌&&◌, ◌||◌, ◌⊎◌, ℕ, zero, suc, eqb, ltb}
+use Rattle.std.specs.Prelude.{◌≡◌, Bool, false, cond, not, ◌&&◌, ◌||◌, ◌⊎◌, ℕ, zero, suc, eqb, ltb, Result}
 use mathlib.Core.List.{List, [], ◌∷◌, ◌++◌, Memᴰ}
 use Rattle.wire.specs.Groups.{is_group}
 use Rattle.tables.specs.Refusals.{Check, refuse, off, first_refusal}
-use Rattle.tables.specs.Outcome.{Answer, refusal, answer, Out, outcome}
+use Rattle.tables.specs.Outcome.{Answer, Out, outcome}
+use Rattle.tables.specs.Numbers.{answered}
+use Rattle.tables.specs.declared.refusal.Refusal.{Refusal}
 use Rattle.tables.specs.Phys.{phy_count, phys_sized, phy_priority, phy_address, ready}
 use Rattle.tables.specs.Routes.{route_count, routes_sized, route_group, route_priority, route_address}
 use Rattle.election.specs.declared.Candidate.{Candidate}
-use Rattle.election.specs.declared.Elected.{Elected}
-use Rattle.election.specs.declared.Elected.TheVariants.{Refused, Supervisor}
+use Rattle.election.specs.declared.Supervisor.{Supervisor}
 
 -- the answer in document 01's numbers
-abbrev pub elected_as : Elected → Answer
-elected_as (Refused n) = refusal n
-elected_as (Supervisor p a) = answer (p ∷ a ∷ [])
+abbrev pub elected_as : Result Supervisor Refusal → Answer
+elected_as = answered (λ s. s.priority ∷ s.address ∷ [])
 
 -- "priority above 0 and address not zero"
 abbrev pub fit : ℕ → ℕ → Bool

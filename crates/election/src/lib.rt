@@ -4,69 +4,48 @@
 ghost use Rattle.std.specs.Prelude.{◌≡◌, [], ◌*◌, ◌<◌, ◌≤◌, length};
 ghost use Rattle.tables.specs.Refusals.{first_refusal};
 ghost use Rattle.tables.specs.Outcome.{out};
+ghost use Rattle.tables.specs.Numbers.{refused};
 ghost use Rattle.tables.specs.Phys.{phy_record, phy_count};
 ghost use Rattle.tables.specs.Routes.{route_count};
 ghost use Rattle.election.specs.Election.{elected_as, fit, candidate, phy_candidate, phy_candidates, route_candidate, route_candidates, better, best, elected, elect_checks, elect_out};
 
-use tables::{PHY_RECORD, ROUTE_RECORD, WRONG_SIZE};
-use wire::{OutsideGroup, PhyNumber};
+use tables::refusal::Refusal;
+use tables::{PHY_RECORD, ROUTE_RECORD};
+use wire::PhyNumber;
 
-// The best candidate so far. Two fields of one size: a gap between them would be copied at each step.
-#[derive(Clone, Copy)]
+// The best candidate so far. The order is that of the fields: higher priority wins, then the greater address. Two fields of one size: a gap
+// between them would be copied at each step.
+#[derive(Clone, Copy, Debug, PartialEq, Eq, PartialOrd, Ord)]
 pub struct Candidate {
     pub priority: u64,
     pub address: u64,
 }
 
-#[derive(Clone, Copy)]
-pub enum Elected {
-    Refused(u8),
-    // Priority and address.
-    Supervisor(u8, u64),
+// The elected supervisor; priority 0 and address 0 where nobody stands.
+#[derive(Clone, Copy, Debug, PartialEq, Eq)]
+pub struct Supervisor {
+    pub priority: u8,
+    pub address: u64,
 }
 
 // The refusals of an election: the sizes of both tables.
-fn elect_refusal(phys: &[u8], routes: &[u8]) -> u8
-    ensures { result ≡ first_refusal (elect_checks phys.now routes.now) }
+fn check_elect(phys: &[u8], routes: &[u8]) -> Result<(), Refusal>
+    ensures { refused result ≡ first_refusal (elect_checks phys.now routes.now) }
 {
     if !tables::phys_sized(phys) {
-        return WRONG_SIZE;
+        return Err(Refusal::WrongSize);
     }
     if !tables::routes_sized(routes) {
-        return WRONG_SIZE;
+        return Err(Refusal::WrongSize);
     }
-    0
-}
-
-// The winner of b and the candidate of this priority and address.
-fn better(b: Candidate, priority: u64, address: u64) -> Candidate
-    ensures { result ≡ better (record { priority = priority; address = address }) b }
-{
-    if b.priority < priority {
-        return Candidate { priority, address };
-    }
-    if b.priority == priority {
-        if b.address < address {
-            return Candidate { priority, address };
-        }
-    }
-    b
+    Ok(())
 }
 
 // The best candidate so far, lent: it becomes the better of itself and a candidate.
 fn update(best: &mut Candidate, priority: u64, address: u64)
     ensures { best.new ≡ better (record { priority = priority; address = address }) best.old }
 {
-    *best = better(*best, priority, address);
-}
-
-// The same with plain parameters, so that what stands above it needs no walk by hand.
-fn step(b: Candidate, priority: u64, address: u64) -> Candidate
-    ensures { result ≡ better (record { priority = priority; address = address }) b }
-{
-    let mut best = b;
-    update(&mut best, priority, address);
-    best
+    *best = (*best).max(Candidate { priority, address });
 }
 
 // The one step of both loops: the best of b and a record whose priority is above 0.
@@ -77,7 +56,9 @@ fn consider(b: Candidate, priority: u64, address: u64) -> Candidate
     if address == 0 {
         return b;
     }
-    step(b, priority, address)
+    let mut best = b;
+    update(&mut best, priority, address);
+    best
 }
 
 // The best of b and a phy. Most phys have a lower priority than b, or 0: their address is not read.
@@ -110,7 +91,7 @@ fn with_route(b: Candidate, routes: &[u8], i: usize) -> Candidate
     if priority == 0 {
         return b;
     }
-    let OutsideGroup::Group(_) = tables::route_group(routes, i) else {
+    let Some(_) = tables::route_group(routes, i) else {
         return b;
     };
     consider(b, priority, tables::route_address(routes, i))
@@ -123,10 +104,8 @@ fn elect_phys(b: Candidate, phys: &[u8]) -> Candidate
 {
     let count = phys.len() / PHY_RECORD;
     let mut so_far = b;
-    let mut i: usize = 0;
-    while i < count {
+    for i in 0..count {
         so_far = with_phy(so_far, phys, PhyNumber(i as u8));
-        i += 1;
     }
     so_far
 }
@@ -137,10 +116,8 @@ fn elect_routes(b: Candidate, routes: &[u8]) -> Candidate
 {
     let count = routes.len() / ROUTE_RECORD;
     let mut so_far = b;
-    let mut i: usize = 0;
-    while i < count {
+    for i in 0..count {
         so_far = with_route(so_far, routes, i);
-        i += 1;
     }
     so_far
 }
@@ -159,13 +136,13 @@ fn elect_both(phys: &[u8], routes: &[u8]) -> Candidate
 }
 
 // The elected supervisor: the greatest candidate of both tables.
-pub fn elect(phys: &[u8], routes: &[u8]) -> Elected
+pub fn elect(phys: &[u8], routes: &[u8]) -> Result<Supervisor, Refusal>
     ensures { out (elected_as result) [] ≡ elect_out phys.now routes.now }
 {
-    let no = elect_refusal(phys, routes);
-    if no != 0 {
-        return Elected::Refused(no);
-    }
+    check_elect(phys, routes)?;
     let best = elect_both(phys, routes);
-    Elected::Supervisor(best.priority as u8, best.address)
+    Ok(Supervisor {
+        priority: best.priority as u8,
+        address: best.address,
+    })
 }

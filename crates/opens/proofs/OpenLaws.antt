@@ -11,8 +11,8 @@ use Rattle.wire.specs.declared.ZoneGroup.{ZoneGroup}
 use Rattle.permit.specs.Permission.{reaches}
 use Rattle.tables.specs.Phys.{phy_group, participating}
 use Rattle.tables.specs.Ports.{same_port}
-use Rattle.searches.specs.declared.Found.{Found}
-use Rattle.searches.specs.declared.Found.TheVariants.{At, Nothing}
+use Rattle.std.proofs.Common.{Option, Some, None}
+use Rattle.searches.specs.declared.Destination.{Destination}
 use Rattle.opens.specs.declared.Opened.TheVariants.{BadDestination, ZoneViolation, Forward}
 use Rattle.searches.specs.Search.{search}
 use Rattle.opens.specs.Open.{open_source, judge, opened}
@@ -29,35 +29,36 @@ source_lt phys phy frame = source_cond (participating phys phy) (get_or frame 20
 -- ---- a frame that is forwarded
 module _ (w : ℕ) (phys permissions : List ℕ) (phy : ℕ) (frame : List ℕ) (p : PhyNumber) where
   -- it went out on p by the finding f
-  abbrev Reached : Found → Type 0
+  abbrev Reached : Option Destination → Type 0
   Reached f =
-      (g : ZoneGroup) × (f ≡ At p g) × (reaches w permissions (open_source phys phy frame) g.0 ≡ true) × (same_port phys phy p.0 ≡ false)
+      (g : ZoneGroup) × (f ≡ Some (record { phy = p; group = g })) × (reaches w permissions (open_source phys phy frame) g.0 ≡ true) × (same_port phys phy p.0 ≡ false)
 
-  by_tests : (q : PhyNumber) (g : ZoneGroup) (a b : Bool) → same_port phys phy q.0 ≡ a → reaches w permissions (open_source phys phy frame) g.0 ≡ b
-      → cond a BadDestination (cond b (Forward q) ZoneViolation) ≡ Forward p → Reached (At q g)
-  by_tests q g true b ea eb e = let z : ◌≡◌ {A = ℕ} 0 1 = cc in absurd (omega arith)
-  by_tests q g false false ea eb e = let z : ◌≡◌ {A = ℕ} 0 1 = cc in absurd (omega arith)
-  by_tests q g false true ea eb e =
-      let s : q ≡ p = cc in
-      (g, ap (λ (x : PhyNumber). At x g) s, eb, ap (λ (x : PhyNumber). same_port phys phy x.0) (sym s) ∙ ea)
+  by_tests : (d : Destination) (a b : Bool) → same_port phys phy d.phy.0 ≡ a → reaches w permissions (open_source phys phy frame) d.group.0 ≡ b
+      → cond a BadDestination (cond b (Forward d.phy) ZoneViolation) ≡ Forward p → Reached (Some d)
+  by_tests d true b ea eb e = let z : ◌≡◌ {A = ℕ} 0 1 = cc in absurd (omega arith)
+  by_tests d false false ea eb e = let z : ◌≡◌ {A = ℕ} 0 1 = cc in absurd (omega arith)
+  by_tests d false true ea eb e =
+      let s : d.phy ≡ p = cc in
+      (d.group, ap (λ (x : PhyNumber). Some (record { phy = x; group = d.group })) s, eb, ap (λ (x : PhyNumber). same_port phys phy x.0) (sym s) ∙ ea)
 
-  reached : (f : Found) → judge w phys permissions phy frame f ≡ Forward p → Reached f
+  reached : (f : Option Destination) → judge w phys permissions phy frame f ≡ Forward p → Reached f
   unfolding judge
-  reached Nothing e = let z : ◌≡◌ {A = ℕ} 0 1 = cc in absurd (omega arith)
-  reached (At q g) e = by_tests q g (same_port phys phy q.0) (reaches w permissions (open_source phys phy frame) g.0) refl refl e
+  reached None e = let z : ◌≡◌ {A = ℕ} 0 1 = cc in absurd (omega arith)
+  reached (Some d) e = by_tests d (same_port phys phy d.phy.0) (reaches w permissions (open_source phys phy frame) d.group.0) refl refl e
 
 module _ (w : ℕ) (phys routes permissions : List ℕ) (phy : ℕ) (frame : List ℕ) where
   -- the phy that the search found, by a permission that is on, and not back to the arriving phy's port
   pub forward_permitted : (p : PhyNumber) → opened w phys routes permissions phy frame ≡ Forward p
-      → (g : ZoneGroup) × (search phys routes frame ≡ At p g) × (reaches w permissions (open_source phys phy frame) g.0 ≡ true) × (same_port phys phy p.0 ≡ false)
+      → (g : ZoneGroup) × (search phys routes frame ≡ Some (record { phy = p; group = g })) × (reaches w permissions (open_source phys phy frame) g.0 ≡ true) × (same_port phys phy p.0 ≡ false)
   forward_permitted p e = reached w phys permissions phy frame p (search phys routes frame) e
 
   -- where the permission is off nothing is forwarded, on no phy
-  pub barred : (p : PhyNumber) (g : ZoneGroup) → search phys routes frame ≡ At p g → reaches w permissions (open_source phys phy frame) g.0 ≡ false
+  pub barred : (d : Destination) → search phys routes frame ≡ Some d → reaches w permissions (open_source phys phy frame) d.group.0 ≡ false
       → (q : PhyNumber) → opened w phys routes permissions phy frame ≡ Forward q → ⊥
-  barred p g s off q e =
+  barred d s off q e =
       let r = forward_permitted q e in
-      let same : g ≡ r.0 = cc r.1 in
-      let on : reaches w permissions (open_source phys phy frame) g.0 ≡ true = ap (λ (x : ZoneGroup). reaches w permissions (open_source phys phy frame) x.0) same ∙ r.2 in
+      let found : Some d ≡ Some (record { phy = q; group = r.0 }) = sym s ∙ r.1 in
+      let same : d.group ≡ r.0 = cc found in
+      let on : reaches w permissions (open_source phys phy frame) d.group.0 ≡ true = ap (λ (x : ZoneGroup). reaches w permissions (open_source phys phy frame) x.0) same ∙ r.2 in
       let z : ◌≡◌ {A = ℕ} 0 1 = cc in
       omega arith

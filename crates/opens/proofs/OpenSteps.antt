@@ -1,7 +1,7 @@
 -- The ways out of the functions that judge and write a frame.
 -- Assumes nothing.
 use mathlib.Core.Path.{◌≡◌, refl, sym, ap, ◌∙◌}
-use mathlib.Core.Bool.{Bool, true, false, cond, not, ◌&&◌}
+use mathlib.Core.Bool.{Bool, true, false, not, ◌&&◌}
 use mathlib.Core.List.{List, [], ◌∷◌, ◌++◌}
 use Prim.Native.Nat.{ℕ, ◌+◌, ◌*◌, ◌/◌, ◌%◌, ◌<◌, ◌≤◌}
 use native.Mathlib.Omega.{arith}
@@ -13,20 +13,19 @@ use lib.Seq.{paste, take_all, set-append_left}
 use Rattle.permit.specs.Permission.{permissions_sized, reaches, Width, Table}
 use Rattle.permit.proofs.Laws.{table_sized}
 use Rattle.tables.specs.Refusals.{first_refusal}
-use Rattle.tables.specs.Outcome.{answer, out}
+use Rattle.tables.specs.Outcome.{out}
 use Rattle.tables.proofs.OutcomeLaws.{gives}
 use Rattle.tables.proofs.ArrivalLaws.{both, Arrived, arrival_clear}
 use Rattle.wire.specs.declared.PhyNumber.{PhyNumber}
-use Rattle.wire.specs.declared.ZoneGroup.{ZoneGroup}
 use Rattle.tables.specs.Phys.{phy_record, phy_count, phy_group, phy_priority, participating}
 use Rattle.tables.specs.Ports.{same_port}
 use Rattle.tables.specs.Routes.{routes_sized}
-use Rattle.searches.specs.declared.Found.{Found}
-use Rattle.searches.specs.declared.Found.TheVariants.{At, Nothing}
+use Rattle.std.proofs.Common.{Option, Some, None, Ok}
+use Rattle.searches.specs.declared.Destination.{Destination}
 use Rattle.opens.specs.declared.Opened.{Opened}
 use Rattle.opens.specs.declared.Opened.TheVariants.{NoDestination, BadDestination, ZoneViolation, Forward}
 use Rattle.searches.specs.Search.{search}
-use Rattle.opens.specs.Open.{values_of, opened_as, room_for, open_checks, open_source, judge, byte20, sent, open_out}
+use Rattle.opens.specs.Open.{opened_as, room_for, open_checks, open_source, judge, byte20, sent, open_out}
 use Rattle.opens.proofs.OpenLaws.{source_lt}
 
 -- ---- open_source
@@ -73,17 +72,17 @@ write_end frame s₀ s x l e =
     ∙ set-append_left frame (drop 28 s₀) 20 x (omega arith)
 
 -- ---- admit
-module _ (w : ℕ) (phys permissions : List ℕ) (phy : ℕ) (frame : List ℕ) (p : PhyNumber) (g : ZoneGroup) (o : Bool) (eo : o ≡ same_port phys phy p.0) where
-  pub admit_bad : o ≡ true → BadDestination ≡ judge w phys permissions phy frame (At p g)
+module _ (w : ℕ) (phys permissions : List ℕ) (phy : ℕ) (frame : List ℕ) (d : Destination) (o : Bool) (eo : o ≡ same_port phys phy d.phy.0) where
+  pub admit_bad : o ≡ true → BadDestination ≡ judge w phys permissions phy frame (Some d)
   unfolding judge
   admit_bad h = rw (sym eo ∙ h)
 
-  module _ (n : o ≡ false) (s : ℕ) (es : s ≡ open_source phys phy frame) (b : Bool) (eb : b ≡ reaches w permissions s g.0) where
-    pub admit_violation : not b ≡ true → ZoneViolation ≡ judge w phys permissions phy frame (At p g)
+  module _ (n : o ≡ false) (s : ℕ) (es : s ≡ open_source phys phy frame) (b : Bool) (eb : b ≡ reaches w permissions s d.group.0) where
+    pub admit_violation : not b ≡ true → ZoneViolation ≡ judge w phys permissions phy frame (Some d)
     unfolding judge
     admit_violation h = rw (sym eo ∙ n, ← es, sym eb ∙ not-true b h)
 
-    pub admit_forward : not b ≡ false → Forward p ≡ judge w phys permissions phy frame (At p g)
+    pub admit_forward : not b ≡ false → Forward d.phy ≡ judge w phys permissions phy frame (Some d)
     unfolding judge
     admit_forward h = rw (sym eo ∙ n, ← es, sym eb ∙ not-false b h)
 
@@ -92,24 +91,11 @@ pub sent_forward : (phys : List ℕ) (phy : ℕ) (frame buffer : List ℕ) (p : 
 unfolding sent
 sent_forward phys phy frame buffer p x after ex ea = rw (← ex) ea
 
--- ---- open
--- a judgement is no refusal
-answered : (a b : Bool) (p : PhyNumber) → opened_as (cond a BadDestination (cond b (Forward p) ZoneViolation)) ≡ answer (values_of (cond a BadDestination (cond b (Forward p) ZoneViolation)))
-answered true b p = refl
-answered false true p = refl
-answered false false p = refl
-
-pub judged : (w : ℕ) (phys permissions : List ℕ) (phy : ℕ) (frame : List ℕ) (f : Found) → opened_as (judge w phys permissions phy frame f) ≡ answer (values_of (judge w phys permissions phy frame f))
-unfolding judge
-judged w phys permissions phy frame Nothing = refl
-judged w phys permissions phy frame (At p g) = answered (same_port phys phy p.0) (reaches w permissions (open_source phys phy frame) g.0) p
-
--- n is the number that the checks answered, f what the search gave
-module _ (w : ℕ) (phys routes permissions : List ℕ) (phy : ℕ) (frame buffer : List ℕ) (n : ℕ) (e : n ≡ first_refusal (open_checks w phys routes permissions phy frame (room_for buffer))) (z : n ≡ 0) where
-  -- where nothing is refused
+-- ---- open: where the checks let it pass; f is what the search gave
+module _ (w : ℕ) (phys routes permissions : List ℕ) (phy : ℕ) (frame buffer : List ℕ) (e : 0 ≡ first_refusal (open_checks w phys routes permissions phy frame (room_for buffer))) where
   clears : Arrived phys phy (routes_sized routes && permissions_sized w permissions) (room_for buffer) true × (length frame ≡ 28)
   clears =
-      let k = arrival_clear phys phy (routes_sized routes && permissions_sized w permissions) (room_for buffer) true _ n e z tt in
+      let k = arrival_clear phys phy (routes_sized routes && permissions_sized w permissions) (room_for buffer) true _ 0 e refl tt in
       (k.0, k.1.0)
 
   pub open_most : length phys ≤ 128 * phy_record
@@ -127,15 +113,15 @@ module _ (w : ℕ) (phys routes permissions : List ℕ) (phy : ℕ) (frame buffe
   pub open_room : 28 ≤ length buffer
   open_room = leb-true _ _ clears.0.roomy
 
-  module _ (f : Found) (ef : f ≡ search phys routes frame) where
-    pub open_none : f ≡ Nothing → out (opened_as NoDestination) (buffer ∷ []) ≡ open_out w phys routes permissions phy frame buffer
+  module _ (f : Option Destination) (ef : f ≡ search phys routes frame) where
+    pub open_none : f ≡ None → out (opened_as (Ok NoDestination)) (buffer ∷ []) ≡ open_out w phys routes permissions phy frame buffer
     unfolding judge sent
     open_none h =
-        let s : search phys routes frame ≡ Nothing = sym ef ∙ h in
-        gives _ _ n _ _ _ _ e z (rw s) (rw s)
+        let s : search phys routes frame ≡ None = sym ef ∙ h in
+        gives _ _ _ _ _ _ e (rw s) (rw s)
 
-    pub open_to : (p : PhyNumber) (g : ZoneGroup) (r : Opened) (after : List ℕ) → f ≡ At p g → r ≡ judge w phys permissions phy frame (At p g) → after ≡ sent phys phy frame buffer r
-        → out (opened_as r) (after ∷ []) ≡ open_out w phys routes permissions phy frame buffer
-    open_to p g r after h er ea =
-        let s : search phys routes frame ≡ At p g = sym ef ∙ h in
-        gives _ _ n _ _ _ _ e z (rw (er, s) (judged w phys permissions phy frame (At p g))) (rw (ea, er, s))
+    pub open_to : (d : Destination) (r : Opened) (after : List ℕ) → f ≡ Some d → r ≡ judge w phys permissions phy frame (Some d) → after ≡ sent phys phy frame buffer r
+        → out (opened_as (Ok r)) (after ∷ []) ≡ open_out w phys routes permissions phy frame buffer
+    open_to d r after h er ea =
+        let s : search phys routes frame ≡ Some d = sym ef ∙ h in
+        gives _ _ _ _ _ _ e (rw (er, s)) (rw (ea, er, s))

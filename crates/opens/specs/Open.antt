@@ -1,34 +1,31 @@
 -- "OPEN": "Byte 0 bits 3..0 type 1h; 4-11 destination; 12-19 source; byte 20 bit 7 ACCESS ZONE MANAGEMENT, bits 6..0 SOURCE ZONE GROUP".
-use Rattle.std.specs.Prelude.{Bool, true, cond, ◌&&◌, List, [], ◌∷◌, ◌++◌, ℕ, ◌+◌, ◌*◌, ◌/◌, ◌%◌, ltb, leb, length, get_or, set, drop}
+use Rattle.std.specs.Prelude.{Bool, true, cond, ◌&&◌, List, [], ◌∷◌, ◌++◌, ℕ, ◌+◌, ◌*◌, ◌/◌, ◌%◌, ltb, leb, length, get_or, set, drop, Option, Some, None, Result}
 use Rattle.wire.specs.Bits.{num}
 use Rattle.wire.specs.Groups.{group_of}
 use Rattle.permit.specs.Permission.{permissions_sized, reaches}
 use Rattle.tables.specs.Refusals.{Check, refuse, differ, first_refusal}
-use Rattle.tables.specs.Outcome.{Answer, refusal, answer, Out, outcome}
+use Rattle.tables.specs.Outcome.{Answer, Out, outcome}
+use Rattle.tables.specs.Numbers.{answered}
+use Rattle.tables.specs.declared.refusal.Refusal.{Refusal}
 use Rattle.tables.specs.Phys.{phy_group, phy_priority, participating}
 use Rattle.tables.specs.Ports.{same_port}
 use Rattle.tables.specs.Routes.{routes_sized}
 use Rattle.tables.specs.Arrival.{arrival_checks}
-use Rattle.searches.specs.declared.Found.{Found}
-use Rattle.searches.specs.declared.Found.TheVariants.{At, Nothing}
+use Rattle.searches.specs.declared.Destination.{Destination}
 use Rattle.opens.specs.declared.Opened.{Opened}
-use Rattle.opens.specs.declared.Opened.TheVariants.{Refused, NoDestination, BadDestination, ZoneViolation, Forward}
+use Rattle.opens.specs.declared.Opened.TheVariants.{NoDestination, BadDestination, ZoneViolation, Forward}
 use Rattle.searches.specs.Search.{search}
 
--- the answer in document 01's numbers: an outcome's place in its list, and the phy to forward on
+-- an outcome's place in its list, and the phy to forward on
 abbrev pub values_of : Opened → List ℕ
-values_of (Refused n) = []
 values_of NoDestination = 1 ∷ []
 values_of BadDestination = 2 ∷ []
 values_of ZoneViolation = 3 ∷ []
 values_of (Forward p) = 4 ∷ p.0 ∷ []
 
-abbrev pub opened_as : Opened → Answer
-opened_as (Refused n) = refusal n
-opened_as NoDestination = answer (values_of NoDestination)
-opened_as BadDestination = answer (values_of BadDestination)
-opened_as ZoneViolation = answer (values_of ZoneViolation)
-opened_as (Forward p) = answer (values_of (Forward p))
+-- the answer in document 01's numbers
+abbrev pub opened_as : Result Opened Refusal → Answer
+opened_as = answered values_of
 
 -- "frame buffer under 28": whether there is room for a frame
 abbrev pub room_for : List ℕ → Bool
@@ -48,11 +45,11 @@ unfoldable pub open_source : List ℕ → ℕ → List ℕ → ℕ
 open_source phys phy frame = cond (participating phys phy) (group_of (get_or frame 20 0)) (phy_group phys phy)
 
 -- "Outcomes in order": 1 and 2, 3, 4. "BAD DESTINATION is given when the phy found is in the arriving phy's port."
-unfoldable pub judge : ℕ → List ℕ → List ℕ → ℕ → List ℕ → Found → Opened
-judge w phys permissions phy frame Nothing = NoDestination
-judge w phys permissions phy frame (At p g) =
-    cond (same_port phys phy p.0) BadDestination
-    (cond (reaches w permissions (open_source phys phy frame) g.0) (Forward p) ZoneViolation)
+unfoldable pub judge : ℕ → List ℕ → List ℕ → ℕ → List ℕ → Option Destination → Opened
+judge w phys permissions phy frame None = NoDestination
+judge w phys permissions phy frame (Some d) =
+    cond (same_port phys phy d.phy.0) BadDestination
+    (cond (reaches w permissions (open_source phys phy frame) d.group.0) (Forward d.phy) ZoneViolation)
 
 -- the outcome of an OPEN that is not refused
 abbrev pub opened : ℕ → List ℕ → List ℕ → List ℕ → ℕ → List ℕ → Opened
@@ -68,7 +65,6 @@ byte20 phys phy frame p = cond (participating phys p) (manages phys phy frame * 
 
 -- "write 28 bytes: the frame with byte 20 changed"; "Outcomes 1 to 3 write no frame."
 unfoldable pub sent : List ℕ → ℕ → List ℕ → List ℕ → Opened → List ℕ
-sent phys phy frame buffer (Refused n) = buffer
 sent phys phy frame buffer NoDestination = buffer
 sent phys phy frame buffer BadDestination = buffer
 sent phys phy frame buffer ZoneViolation = buffer

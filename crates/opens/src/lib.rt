@@ -1,29 +1,30 @@
 // OPEN frames: the gate through which a host reaches a disk.
 #![tactic(auto)]
 
-ghost use Rattle.std.specs.Prelude.{◌≡◌, [], ◌∷◌, ◌++◌, ◌<◌, ◌≤◌, length, set, drop};
+ghost use Rattle.std.specs.Prelude.{◌≡◌, [], ◌∷◌, ◌++◌, ◌<◌, ◌≤◌, length, set, drop, Some};
 ghost use Rattle.permit.specs.Permission.{Width, Table};
 ghost use Rattle.tables.specs.Refusals.{first_refusal};
 ghost use Rattle.tables.specs.Phys.{phy_count};
 ghost use Rattle.tables.specs.Outcome.{out};
-ghost use Rattle.searches.specs.declared.Found.TheVariants.{At};
+ghost use Rattle.tables.specs.Numbers.{refused};
 ghost use Rattle.opens.specs.Open.{opened_as, open_checks, open_source, judge, byte20, sent, open_out};
 
-use searches::Found;
+use searches::Destination;
 use tables::READY;
+use tables::refusal::Refusal;
 use wire::{PhyNumber, ZoneGroup};
 
-#[derive(Clone, Copy)]
+// What becomes of a frame that is not refused.
+#[derive(Clone, Copy, Debug, PartialEq, Eq)]
 pub enum Opened {
-    Refused(u8),
     NoDestination,
     BadDestination,
     ZoneViolation,
     Forward(PhyNumber),
 }
 
-// The number of the refusal, or 0.
-fn open_refusal(
+// The refusals of OPEN, in document 01's order.
+fn check_open(
     width: usize,
     phys: &[u8],
     routes: &[u8],
@@ -31,22 +32,19 @@ fn open_refusal(
     phy: PhyNumber,
     frame: &[u8],
     room: bool,
-) -> u8
+) -> Result<(), Refusal>
     requires { Width width }
-    ensures { result ≡ first_refusal (open_checks width phys.now routes.now permissions.now phy.0 frame.now room) }
+    ensures { refused result ≡ first_refusal (open_checks width phys.now routes.now permissions.now phy.0 frame.now room) }
 {
     let sizes = tables::routes_sized(routes) & permit::permissions_sized(width, permissions);
-    let no = tables::arrival_refusal(phys, phy, sizes, room, READY);
-    if no != 0 {
-        return no;
-    }
+    tables::check_arrival(phys, phy, sizes, room, READY)?;
     if frame.len() != 28 {
-        return 4;
+        return Err(Refusal::WrongLength);
     }
     if frame[0] % 16 != 1 {
-        return 5;
+        return Err(Refusal::WrongField);
     }
-    0
+    Ok(())
 }
 
 // The group for which the frame speaks.
@@ -86,30 +84,29 @@ fn write_frame(frame: &[u8], byte: u8, buffer: &mut [u8])
     buffer[20] = byte;
 }
 
-// What becomes of a frame for the phy p and the group g.
+// What becomes of a frame for a destination that was found.
 fn admit(
     width: usize,
     phys: &[u8],
     permissions: &[u8],
     phy: PhyNumber,
     frame: &[u8],
-    p: PhyNumber,
-    g: ZoneGroup,
+    found: Destination,
     buffer: &mut [u8],
 ) -> Opened
-    requires { (phy.0 < phy_count phys.now) × Table width permissions.now × (length frame.now ≡ 28) × (28 ≤ length buffer.old) × (p.0 < phy_count phys.now) }
-    ensures { (result ≡ judge width phys.now permissions.now phy.0 frame.now (At p g)) × (buffer.new ≡ sent phys.now phy.0 frame.now buffer.old result) }
+    requires { (phy.0 < phy_count phys.now) × Table width permissions.now × (length frame.now ≡ 28) × (28 ≤ length buffer.old) × (found.phy.0 < phy_count phys.now) }
+    ensures { (result ≡ judge width phys.now permissions.now phy.0 frame.now (Some found)) × (buffer.new ≡ sent phys.now phy.0 frame.now buffer.old result) }
 {
-    if tables::same_port(phys, phy, p) {
+    if tables::same_port(phys, phy, found.phy) {
         return Opened::BadDestination;
     }
     let source = open_source(phys, phy, frame);
-    if !permit::permitted(width, permissions, source, g) {
+    if !permit::permitted(width, permissions, source, found.group) {
         return Opened::ZoneViolation;
     }
-    let byte = byte20(phys, phy, frame, source, p);
+    let byte = byte20(phys, phy, frame, source, found.phy);
     write_frame(frame, byte, buffer);
-    Opened::Forward(p)
+    Opened::Forward(found.phy)
 }
 
 // An OPEN frame arrives on a phy.
@@ -121,26 +118,16 @@ pub fn open_at(
     phy: PhyNumber,
     frame: &[u8],
     buffer: &mut [u8],
-) -> Opened
+) -> Result<Opened, Refusal>
     requires { Width width }
     ensures { out (opened_as result) (buffer.new ∷ []) ≡ open_out width phys.now routes.now permissions.now phy.0 frame.now buffer.old }
 {
-    let no = open_refusal(
-        width,
-        phys,
-        routes,
-        permissions,
-        phy,
-        frame,
-        28 <= buffer.len(),
-    );
-    if no != 0 {
-        return Opened::Refused(no);
-    }
-    let Found::At(p, g) = searches::search(phys, routes, frame) else {
-        return Opened::NoDestination;
+    let room = 28 <= buffer.len();
+    check_open(width, phys, routes, permissions, phy, frame, room)?;
+    let Some(found) = searches::search(phys, routes, frame) else {
+        return Ok(Opened::NoDestination);
     };
-    admit(width, phys, permissions, phy, frame, p, g, buffer)
+    Ok(admit(width, phys, permissions, phy, frame, found, buffer))
 }
 
 // Document 01's shelf.
@@ -151,7 +138,7 @@ pub fn open(
     phy: PhyNumber,
     frame: &[u8],
     buffer: &mut [u8],
-) -> Opened
+) -> Result<Opened, Refusal>
     ensures { out (opened_as result) (buffer.new ∷ []) ≡ open_out 16 phys.now routes.now permissions.now phy.0 frame.now buffer.old }
 {
     open_at(16, phys, routes, permissions, phy, frame, buffer)

@@ -8,47 +8,29 @@ use native.Mathlib.Nat.{sub-zero}
 use native.Mathlib.Numerals.{add-one}
 use native.Mathlib.Omega.{arith}
 use borrow.Author.Tests.{ltb-true, lt-ltb, le-ltb, eq-eqb, ne_eqb, not-true, not-false}
+use lib.Dec.{eqb}
 use lib.ListN.{get_or}
 use Rattle.wire.specs.declared.PhyNumber.{PhyNumber}
 use Rattle.wire.specs.declared.ZoneGroup.{ZoneGroup}
-use Rattle.wire.specs.declared.OutsideGroup.{OutsideGroup}
-use Rattle.wire.specs.declared.OutsideGroup.TheVariants.{Group, NoGroup}
+use Rattle.std.proofs.Common.{Option, Some, None}
+use Rattle.std.proofs.lemmas.Bool.Decides.{nat_tests}
+use Rattle.wire.specs.Address.{big_endian, address_at}
 use Rattle.wire.specs.Groups.{outside_group}
 use Rattle.wire.proofs.GroupLaws.{outside_number}
 use Rattle.wire.proofs.Loops.{left}
 use Rattle.tables.specs.Phys.{phy_record, phy_count, phy_group, ready}
 use Rattle.tables.specs.Routes.{route_record, route_count, route_byte, route_phy, route_group}
 use Rattle.tables.proofs.ArrivalLaws.{both}
-use Rattle.searches.specs.declared.Found.{Found}
-use Rattle.searches.specs.declared.Found.TheVariants.{At, Nothing}
+use Rattle.searches.specs.declared.Destination.{Destination}
 use Rattle.searches.specs.Search.{same_bytes, zero_bytes, found, found_by, find_phy, usable, find_route, or_else, search}
 
--- ---- bytes that are zero: those from k up are
-pub record Zeros (s : List ℕ) (i k : ℕ) : Type 0 where
-  pub within : k ≤ 8
-  pub rest : zero_bytes 8 s i ≡ zero_bytes k s i
+-- ---- bytes that are zero: their address is
+zero_more : (high b : ℕ) → eqb (high * 256 + b) 0 ≡ (eqb b 0 && eqb high 0)
+zero_more high b = grind (arith, nat_tests)
 
-pub zeros-start : (s : List ℕ) (i : ℕ) → Zeros s i 8
-zeros-start s i = record { within = omega arith; rest = refl }
-
-module _ (s : List ℕ) (i k : ℕ) (z : Zeros s i k) where
-  pub zeros_again : 0 < k → get_or s (i + (k - 1)) 0 ≡ 0 → Zeros s i (k - 1)
-  unfolding zero_bytes
-  zeros_again h e =
-      let p : k ≡ suc (k - 1) = omega arith in
-      record { within = omega arith; rest = z.rest ∙ ap (λ (m : ℕ). zero_bytes m s i) p ∙ rw (eq-eqb _ _ e) }
-
-  pub zeros_not : 0 < k → (get_or s (i + (k - 1)) 0 ≡ 0 → ⊥) → false ≡ zero_bytes 8 s i
-  unfolding zero_bytes
-  zeros_not h e =
-      let p : k ≡ suc (k - 1) = omega arith in
-      sym (z.rest ∙ ap (λ (m : ℕ). zero_bytes m s i) p ∙ rw (ne_eqb _ _ e))
-
-  pub zeros_end : k ≤ 0 → true ≡ zero_bytes 8 s i
-  unfolding zero_bytes
-  zeros_end h =
-      let p : k ≡ 0 = omega arith in
-      sym (z.rest ∙ ap (λ (m : ℕ). zero_bytes m s i) p)
+pub zero_address : (frame : List ℕ) (a : ℕ) → a ≡ address_at frame 4 → zero_bytes 8 frame 4 ≡ eqb a 0
+unfolding zero_bytes address_at big_endian
+zero_address frame a e = rw e (simp zero_more refl)
 
 -- ---- bytes that are the same: those from k up are
 pub record Agree (s : List ℕ) (i : ℕ) (t : List ℕ) (j k : ℕ) : Type 0 where
@@ -89,7 +71,7 @@ pub record PhysLeft (phys frame : List ℕ) (n i : ℕ) : Type 0 where
 pub phys_start : (phys frame : List ℕ) (n : ℕ) → PhysLeft phys frame n 0
 phys_start phys frame n = record { within = omega arith; rest = rw sub-zero }
 
-pub phys_none : (phys frame : List ℕ) (n i : ℕ) → PhysLeft phys frame n i → i ≡ n → Nothing ≡ find_phy phys frame 0 n
+pub phys_none : (phys frame : List ℕ) (n i : ℕ) → PhysLeft phys frame n i → i ≡ n → None ≡ find_phy phys frame 0 n
 unfolding find_phy
 phys_none phys frame n i w e =
     let z : n - i ≡ 0 = omega arith in sym (w.rest ∙ ap (find_phy phys frame i) z)
@@ -113,12 +95,12 @@ module _ (phys frame : List ℕ) (n i j : ℕ) (w : PhysLeft phys frame n i) (h 
       let f : ready phys i ≡ false = ap (ready phys) (sym q) ∙ sym e ∙ not-true r d in phys_next (rw f)
 
   pub phys_here : (k : ℕ) (r : Bool) (g : ZoneGroup) → Agree phys (phy_record * i + 4) frame 4 k → get_or phys (phy_record * i + 4 + (k - 1)) 0 ≡ get_or frame (4 + (k - 1)) 0 → k - 1 ≤ 0 → r ≡ ready phys j → not r ≡ false → g.0 ≡ phy_group phys j
-      → At (record { 0 = j }) g ≡ find_phy phys frame 0 n
+      → Some (record { phy = record { 0 = j }; group = g }) ≡ find_phy phys frame 0 n
   unfolding find_phy
   phys_here k r g a e z er u eg =
       let l = w.within in
       let f : ready phys i ≡ true = ap (ready phys) (sym q) ∙ sym er ∙ not-false r u in
-      ap (λ (x : ℕ). At (record { 0 = j }) (record { 0 = x })) eg
+      ap (λ (x : ℕ). found j x) eg
       ∙ ap (λ (m : ℕ). found m (phy_group phys m)) q
       ∙ sym (w.rest ∙ ap (find_phy phys frame i) (left n i (omega arith)) ∙ rw (f, same_all phys (phy_record * i + 4) frame 4 k a e z))
 
@@ -130,7 +112,7 @@ pub usable-ready : (phys : List ℕ) (p : ℕ) (r : Bool) → p < phy_count phys
 usable-ready phys p r h e = rw (lt-ltb _ _ h) e
 
 -- ---- whether a record fits or not
-pub either_way : (b : Bool) (x : Found) → cond b x x ≡ x
+pub either_way : (b : Bool) (x : Option Destination) → cond b x x ≡ x
 either_way true x = refl
 either_way false x = refl
 
@@ -142,7 +124,7 @@ pub record RoutesLeft (phys routes frame : List ℕ) (n i : ℕ) : Type 0 where
 pub routes_start : (phys routes frame : List ℕ) (n : ℕ) → RoutesLeft phys routes frame n 0
 routes_start phys routes frame n = record { within = omega arith; rest = rw sub-zero }
 
-pub routes_none : (phys routes frame : List ℕ) (n i : ℕ) → RoutesLeft phys routes frame n i → i ≡ n → Nothing ≡ find_route phys routes frame 0 n
+pub routes_none : (phys routes frame : List ℕ) (n i : ℕ) → RoutesLeft phys routes frame n i → i ≡ n → None ≡ find_route phys routes frame 0 n
 unfolding find_route
 routes_none phys routes frame n i w e =
     let z : n - i ≡ 0 = omega arith in sym (w.rest ∙ ap (find_route phys routes frame i) z)
@@ -169,50 +151,50 @@ module _ (phys routes frame : List ℕ) (n i j : ℕ) (w : RoutesLeft phys route
       let f : usable phys (route_phy routes i) ≡ false = ap (λ (m : ℕ). usable phys (route_phy routes m)) (sym q) ∙ ap (usable phys) (sym ep) ∙ sym e ∙ not-true r d in routes_unfit (rw f)
 
   -- it is of no group: whether it fits or not, it is skipped
-  pub routes_skipped : (o : OutsideGroup) → o ≡ route_group routes j → o ≡ NoGroup → RoutesLeft phys routes frame n (j + 1)
+  pub routes_skipped : (o : Option ZoneGroup) → o ≡ route_group routes j → o ≡ None → RoutesLeft phys routes frame n (j + 1)
   unfolding find_route
   routes_skipped o e s =
-      let f : route_group routes i ≡ NoGroup = ap (route_group routes) (sym q) ∙ sym e ∙ s in
+      let f : route_group routes i ≡ None = ap (route_group routes) (sym q) ∙ sym e ∙ s in
       routes_next (λ m. rw f (either_way (usable phys (route_phy routes i) && same_bytes 8 routes (route_record * i) frame 4) (find_route phys routes frame (suc i) m)))
 
-  pub routes_here : (k : ℕ) (p : PhyNumber) (r : Bool) (o : OutsideGroup) (g : ZoneGroup) → Agree routes (route_record * i) frame 4 k → get_or routes (route_record * i + (k - 1)) 0 ≡ get_or frame (4 + (k - 1)) 0 → k - 1 ≤ 0 → p.0 ≡ route_phy routes j → r ≡ usable phys p.0 → not r ≡ false → o ≡ route_group routes j → o ≡ Group g
-      → At p g ≡ find_route phys routes frame 0 n
+  pub routes_here : (k : ℕ) (p : PhyNumber) (r : Bool) (o : Option ZoneGroup) (g : ZoneGroup) → Agree routes (route_record * i) frame 4 k → get_or routes (route_record * i + (k - 1)) 0 ≡ get_or frame (4 + (k - 1)) 0 → k - 1 ≤ 0 → p.0 ≡ route_phy routes j → r ≡ usable phys p.0 → not r ≡ false → o ≡ route_group routes j → o ≡ Some g
+      → Some (record { phy = p; group = g }) ≡ find_route phys routes frame 0 n
   unfolding find_route
   routes_here k p r o g a e z ep er u eo s =
       let l = w.within in
       let f : usable phys (route_phy routes i) ≡ true = ap (λ (m : ℕ). usable phys (route_phy routes m)) (sym q) ∙ ap (usable phys) (sym ep) ∙ sym er ∙ not-false r u in
-      let b : route_group routes i ≡ Group g = ap (route_group routes) (sym q) ∙ sym eo ∙ s in
-      ap (λ (x : ℕ). At (record { 0 = x }) g) (ep ∙ ap (route_phy routes) q)
+      let b : route_group routes i ≡ Some g = ap (route_group routes) (sym q) ∙ sym eo ∙ s in
+      ap (λ (x : ℕ). Some (record { phy = record { 0 = x }; group = g })) (ep ∙ ap (route_phy routes) q)
       ∙ sym (w.rest ∙ ap (find_route phys routes frame i) (left n i (omega arith)) ∙ rw (f, same_all routes (route_record * i) frame 4 k a e z, b))
 
--- ---- both tables, with z whether the address is zero and f what the phy table gave
-module _ (phys routes frame : List ℕ) (z : Bool) (ez : z ≡ zero_bytes 8 frame 4) where
-  pub search_zero : z ≡ true → Nothing ≡ search phys routes frame
+-- ---- both tables, with a the address and f what the phy table gave
+module _ (phys routes frame : List ℕ) (a : ℕ) (ea : a ≡ address_at frame 4) where
+  pub search_zero : a ≡ 0 → None ≡ search phys routes frame
   unfolding search
-  search_zero h = rw (sym ez ∙ h)
+  search_zero h = rw (zero_address frame a ea, eq-eqb a 0 h)
 
-  module _ (f : Found) (h : z ≡ false) (ef : f ≡ find_phy phys frame 0 (phy_count phys)) where
-    pub search-first : (p : PhyNumber) (g : ZoneGroup) → f ≡ At p g → At p g ≡ search phys routes frame
+  module _ (f : Option Destination) (h : a ≡ 0 → ⊥) (ef : f ≡ find_phy phys frame 0 (phy_count phys)) where
+    pub search-first : (d : Destination) → f ≡ Some d → Some d ≡ search phys routes frame
     unfolding search
-    search-first p g e = rw (sym ez ∙ h, sym ef ∙ e)
+    search-first d e = rw (zero_address frame a ea, ne_eqb a 0 h, sym ef ∙ e)
 
-    pub search_second : (r : Found) → f ≡ Nothing → r ≡ find_route phys routes frame 0 (route_count routes) → r ≡ search phys routes frame
+    pub search_second : (r : Option Destination) → f ≡ None → r ≡ find_route phys routes frame 0 (route_count routes) → r ≡ search phys routes frame
     unfolding search
-    search_second r e er = rw (sym ez ∙ h, sym ef ∙ e) er
+    search_second r e er = rw (zero_address frame a ea, ne_eqb a 0 h, sym ef ∙ e) er
 
 -- ---- what a search finds is a ready phy of the table, and a group
-abbrev Names : List ℕ → Found → Type 0
-Names phys Nothing = Unit
-Names phys (At p g) = (p.0 < phy_count phys) × (ready phys p.0 ≡ true) × (g.0 < 128)
+abbrev Names : List ℕ → Option Destination → Type 0
+Names phys None = Unit
+Names phys (Some d) = (d.phy.0 < phy_count phys) × (ready phys d.phy.0 ≡ true) × (d.group.0 < 128)
 
 module _ (phys : List ℕ) where
-  names_cond : (b : Bool) (x y : Found) → (b ≡ true → Names phys x) → Names phys y → Names phys (cond b x y)
+  names_cond : (b : Bool) (x y : Option Destination) → (b ≡ true → Names phys x) → Names phys y → Names phys (cond b x y)
   names_cond true x y h l = h refl
   names_cond false x y h l = l
 
-  names_else : (x y : Found) → Names phys x → Names phys y → Names phys (or_else x y)
-  names_else (At p g) y h l = h
-  names_else Nothing y h l = l
+  names_else : (x y : Option Destination) → Names phys x → Names phys y → Names phys (or_else x y)
+  names_else (Some d) y h l = h
+  names_else None y h l = l
 
   names_phy : (frame : List ℕ) (i n : ℕ) → i + n ≤ phy_count phys → Names phys (find_phy phys frame i n)
   unfolding find_phy
@@ -221,9 +203,9 @@ module _ (phys : List ℕ) where
       names_cond (ready phys i && same_bytes 8 phys (phy_record * i + 4) frame 4) (found i (phy_group phys i)) (find_phy phys frame (suc i) n)
       (λ e. (omega arith, (both (ready phys i) _ e).0, omega arith)) (names_phy frame (suc i) n (omega arith))
 
-  names_by : (p b : ℕ) → p < phy_count phys → ready phys p ≡ true → (o : OutsideGroup) → outside_group b ≡ o → Names phys (found_by p o)
-  names_by p b h u (Group g) e = let k = outside_number b g e in (h, u, omega arith)
-  names_by p b h u NoGroup e = tt
+  names_by : (p b : ℕ) → p < phy_count phys → ready phys p ≡ true → (o : Option ZoneGroup) → outside_group b ≡ o → Names phys (found_by p o)
+  names_by p b h u (Some g) e = let k = outside_number b g e in (h, u, omega arith)
+  names_by p b h u None e = tt
 
   names_route : (routes frame : List ℕ) (i n : ℕ) → Names phys (find_route phys routes frame i n)
   unfolding find_route
@@ -241,8 +223,8 @@ module _ (phys : List ℕ) where
   names-search : (routes frame : List ℕ) → Names phys (search phys routes frame)
   unfolding search
   names-search routes frame =
-      names_cond (zero_bytes 8 frame 4) Nothing (or_else (find_phy phys frame 0 (phy_count phys)) (find_route phys routes frame 0 (route_count routes))) (λ e. tt)
+      names_cond (zero_bytes 8 frame 4) None (or_else (find_phy phys frame 0 (phy_count phys)) (find_route phys routes frame 0 (route_count routes))) (λ e. tt)
       (names_else (find_phy phys frame 0 (phy_count phys)) (find_route phys routes frame 0 (route_count routes)) (names_phy frame 0 (phy_count phys) (omega arith)) (names_route routes frame 0 (route_count routes)))
 
-  pub search-names : (routes frame : List ℕ) (p : PhyNumber) (g : ZoneGroup) → search phys routes frame ≡ At p g → (p.0 < phy_count phys) × (ready phys p.0 ≡ true) × (g.0 < 128)
-  search-names routes frame p g e = subst (Names phys) e (names-search routes frame)
+  pub search-names : (routes frame : List ℕ) (d : Destination) → search phys routes frame ≡ Some d → (d.phy.0 < phy_count phys) × (ready phys d.phy.0 ≡ true) × (d.group.0 < 128)
+  search-names routes frame d e = subst (Names phys) e (names-search routes frame)

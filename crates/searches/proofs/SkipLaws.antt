@@ -7,14 +7,13 @@ use Prim.Native.Nat.{ℕ, zero, suc, ◌+◌, ◌*◌, ◌%◌, ◌<◌}
 use native.Mathlib.Omega.{arith}
 use lib.Dec.{eqb}
 use lib.ListN.{length, get_or}
-use Rattle.wire.specs.declared.OutsideGroup.TheVariants.{NoGroup}
+use Rattle.std.proofs.Common.{Option, None}
 use Rattle.wire.proofs.GroupLaws.{outside_none}
 use Rattle.tables.specs.Phys.{phy_count}
 use Rattle.tables.specs.Routes.{route_record, route_byte, route_phy, route_group}
 use Rattle.tables.proofs.RouteLaws.{SameRecord, Walk, walk_skips}
 use Rattle.searches.proofs.SearchLaws.{either_way}
-use Rattle.searches.specs.declared.Found.{Found}
-use Rattle.searches.specs.declared.Found.TheVariants.{Nothing}
+use Rattle.searches.specs.declared.Destination.{Destination}
 use Rattle.searches.specs.Search.{same_bytes, zero_bytes, found_by, find_phy, usable, find_route, or_else, search}
 
 -- the same bytes are the same as others
@@ -27,23 +26,23 @@ same_reads (suc n) r i s j t q h =
 
 module _ (phys frame : List ℕ) where
   -- what record i makes of what the records above it give
-  abbrev looked : List ℕ → ℕ → Found → Found
+  abbrev looked : List ℕ → ℕ → Option Destination → Option Destination
   looked routes i f =
       cond (usable phys (route_phy routes i) && same_bytes 8 routes (route_record * i) frame 4)
       (or_else (found_by (route_phy routes i) (route_group routes i)) f)
       f
 
-  looked_reads : (r : List ℕ) (i : ℕ) (s : List ℕ) (j : ℕ) → SameRecord r i s j → (f : Found) → looked r i f ≡ looked s j f
+  looked_reads : (r : List ℕ) (i : ℕ) (s : List ℕ) (j : ℕ) → SameRecord r i s j → (f : Option Destination) → looked r i f ≡ looked s j f
   looked_reads r i s j h f =
       let b = same_reads 8 r (route_record * i) s (route_record * j) frame 4 (λ k l. h k (omega arith)) in
       rw (h 8 (omega arith), h 9 (omega arith), b)
 
-  looked_passes : (r : List ℕ) (i : ℕ) → 127 < route_byte r i 9 → (f : Found) → looked r i f ≡ f
+  looked_passes : (r : List ℕ) (i : ℕ) → 127 < route_byte r i 9 → (f : Option Destination) → looked r i f ≡ f
   looked_passes r i h f =
-      let g : route_group r i ≡ NoGroup = sym (outside_none (route_byte r i 9) h) in
+      let g : route_group r i ≡ None = sym (outside_none (route_byte r i 9) h) in
       rw g (either_way (usable phys (route_phy r i) && same_bytes 8 r (route_record * i) frame 4) f)
 
-  route_walk : Walk Found (λ r i n. find_route phys r frame i n) looked
+  route_walk : Walk (Option Destination) (λ r i n. find_route phys r frame i n) looked
   unfolding find_route
   route_walk = record {
     ends = λ r i s j. refl;
@@ -56,4 +55,4 @@ module _ (phys frame : List ℕ) where
       → search phys (before ++ skipped ++ behind) frame ≡ search phys (before ++ behind) frame
   unfolding search
   search_skips before skipped behind a c h =
-      ap (λ (f : Found). cond (zero_bytes 8 frame 4) Nothing (or_else (find_phy phys frame 0 (phy_count phys)) f)) (walk_skips route_walk before skipped behind a c h)
+      ap (λ (f : Option Destination). cond (zero_bytes 8 frame 4) None (or_else (find_phy phys frame 0 (phy_count phys)) f)) (walk_skips route_walk before skipped behind a c h)

@@ -4,36 +4,21 @@
 ghost use Rattle.std.specs.Prelude.{◌≡◌, ◌*◌, ◌≤◌, length};
 ghost use Rattle.tables.specs.Phys.{phy_record, phy_count};
 ghost use Rattle.tables.specs.Routes.{route_count};
-ghost use Rattle.searches.specs.Search.{zero_bytes, usable, find_phy, find_route, search};
+ghost use Rattle.searches.specs.Search.{usable, find_phy, find_route, search};
 
 use tables::{PHY_RECORD, ROUTE_RECORD};
-use wire::{OutsideGroup, PhyNumber, ZoneGroup};
+use wire::{PhyNumber, ZoneGroup};
 
 // What a search yields: the phy to go out on, and the destination's group.
-#[derive(Clone, Copy)]
-pub enum Found {
-    At(PhyNumber, ZoneGroup),
-    Nothing,
-}
-
-// Whether the frame's destination is address zero, which matches nothing.
-fn zero_address(frame: &[u8]) -> bool
-    requires { length frame.now ≡ 28 }
-    ensures { result ≡ zero_bytes 8 frame.now 4 }
-{
-    let mut k: usize = 8;
-    while 0 < k {
-        k -= 1;
-        if frame[4 + k] != 0 {
-            return false;
-        }
-    }
-    true
+#[derive(Clone, Copy, Debug, PartialEq, Eq)]
+pub struct Destination {
+    pub phy: PhyNumber,
+    pub group: ZoneGroup,
 }
 
 // The bytes are compared from the last to the first: addresses of one maker differ at the low end, so most records are left at the
 // first comparison. Whether the phy is ready is asked last, since few records come so far.
-fn search_phys(phys: &[u8], frame: &[u8]) -> Found
+fn search_phys(phys: &[u8], frame: &[u8]) -> Option<Destination>
     requires { (length phys.now ≤ 128 * phy_record) × (length frame.now ≡ 28) }
     ensures { result ≡ find_phy phys.now frame.now 0 (phy_count phys.now) }
 {
@@ -41,7 +26,7 @@ fn search_phys(phys: &[u8], frame: &[u8]) -> Found
     let mut i: usize = 0;
     'search: loop {
         if i == count {
-            break Found::Nothing;
+            break None;
         }
         let at = PHY_RECORD * i + 4;
         let mut k: usize = 8;
@@ -54,12 +39,13 @@ fn search_phys(phys: &[u8], frame: &[u8]) -> Found
             if 0 < k {
                 continue 'bytes;
             }
-            let p = PhyNumber(i as u8);
-            if !tables::is_ready(phys, p) {
+            let phy = PhyNumber(i as u8);
+            if !tables::is_ready(phys, phy) {
                 i += 1;
                 continue 'search;
             }
-            break 'search Found::At(p, tables::phy_group(phys, p));
+            let group = tables::phy_group(phys, phy);
+            break 'search Some(Destination { phy, group });
         }
     }
 }
@@ -75,7 +61,7 @@ fn is_usable(phys: &[u8], p: PhyNumber) -> bool
 }
 
 // Bytes first and from the last on, as in `search_phys`. A record of no group is skipped.
-fn search_routes(phys: &[u8], routes: &[u8], frame: &[u8]) -> Found
+fn search_routes(phys: &[u8], routes: &[u8], frame: &[u8]) -> Option<Destination>
     requires { length frame.now ≡ 28 }
     ensures { result ≡ find_route phys.now routes.now frame.now 0 (route_count routes.now) }
 {
@@ -83,7 +69,7 @@ fn search_routes(phys: &[u8], routes: &[u8], frame: &[u8]) -> Found
     let mut i: usize = 0;
     'search: loop {
         if i == count {
-            break Found::Nothing;
+            break None;
         }
         let at = ROUTE_RECORD * i;
         let mut k: usize = 8;
@@ -96,30 +82,30 @@ fn search_routes(phys: &[u8], routes: &[u8], frame: &[u8]) -> Found
             if 0 < k {
                 continue 'bytes;
             }
-            let p = tables::route_phy(routes, i);
-            if !is_usable(phys, p) {
+            let phy = tables::route_phy(routes, i);
+            if !is_usable(phys, phy) {
                 i += 1;
                 continue 'search;
             }
-            let OutsideGroup::Group(g) = tables::route_group(routes, i) else {
+            let Some(group) = tables::route_group(routes, i) else {
                 i += 1;
                 continue 'search;
             };
-            break 'search Found::At(p, g);
+            break 'search Some(Destination { phy, group });
         }
     }
 }
 
-// Where the frame is to go: by the phy table, failing that by the route table.
-pub fn search(phys: &[u8], routes: &[u8], frame: &[u8]) -> Found
+// Where the frame is to go: by the phy table, failing that by the route table. Address zero matches nothing.
+pub fn search(phys: &[u8], routes: &[u8], frame: &[u8]) -> Option<Destination>
     requires { (length phys.now ≤ 128 * phy_record) × (length frame.now ≡ 28) }
     ensures { result ≡ search phys.now routes.now frame.now }
 {
-    if zero_address(frame) {
-        return Found::Nothing;
+    if wire::address_at(frame, 4) == 0 {
+        return None;
     }
-    let Found::At(p, g) = search_phys(phys, frame) else {
+    let Some(found) = search_phys(phys, frame) else {
         return search_routes(phys, routes, frame);
     };
-    Found::At(p, g)
+    Some(found)
 }

@@ -78,17 +78,6 @@ fn is_told(
     !met(phys, next, address, wire::index(last))
 }
 
-// Where byte k of the set ends: with its eight phys, or with the last that there is.
-fn byte_end(k: usize, count: usize) -> usize
-    requires { 8 * k < 128 }
-    ensures { result ≡ min (8 * k + 8) count }
-{
-    if 8 * k + 8 <= count {
-        return 8 * k + 8;
-    }
-    count
-}
-
 // Byte k of the set, upwards, since a phy is held against the lower ones.
 fn told_byte(
     width: usize,
@@ -104,17 +93,15 @@ fn told_byte(
     requires { Shelf width phys.now permissions.now phy.0 × (own ≡ phy_address phys.now phy.0) × (8 * k < phy_count phys.now) × Kept width phys.now permissions.now phy.0 source.0 (8 * k) slots.old next.old }
     ensures { ByteTold width phys.now permissions.now phy.0 source.0 k slots.new next.new result }
 {
-    let end = byte_end(k, phys.len() / tables::PHY_RECORD);
+    let end = (8 * k + 8).min(phys.len() / tables::PHY_RECORD);
     let mut byte: u16 = 0;
     let mut bit: u16 = 1;
-    let mut i = 8 * k;
-    while i < end {
+    for i in 8 * k..end {
         let told = is_told(width, phys, permissions, phy, own, source, i, slots, next);
         if told {
             byte += bit;
         }
         bit += bit;
-        i += 1;
     }
     byte as u8
 }
@@ -136,8 +123,7 @@ pub fn write_told_set(
     tables::write_empty_set(set);
     let mut slots: [u8; 256] = [0; 256];
     let mut next: [u8; 129] = [0; 129];
-    let mut k: usize = 0;
-    while 8 * k < count {
+    for k in 0..count.div_ceil(8) {
         set[k] = told_byte(
             width,
             phys,
@@ -149,6 +135,5 @@ pub fn write_told_set(
             &mut slots,
             &mut next,
         );
-        k += 1;
     }
 }

@@ -1,16 +1,17 @@
 -- `broadcasts::typed_length` meets its contract.
-use borrow.Author.Tests.{eq-eqb, ne_eqb}
+use Rattle.std.proofs.lemmas.Bool.Decides.{nat_tests}
+use native.Mathlib.Omega.{arith}
 use Rattle.broadcasts.specs.Broadcasts.{typed_length}
 use Rattle.broadcasts.proofs.typed_length.Goals as goal
 
-pub returns-then-kind-eq2 : goal.returns-then-kind-eq2
+pub returns-in-2 : goal.returns-in-2
 unfolding typed_length
-returns-then-kind-eq2 c = rw (eq-eqb _ _ c.if-kind-eq2.true)
+returns-in-2 c = rw c.in-2.is
 
-pub returns-then-kind-eq3 : goal.returns-then-kind-eq3
+pub returns-in-3 : goal.returns-in-3
 unfolding typed_length
-returns-then-kind-eq3 c = rw (ne_eqb _ _ c.if-kind-eq2.false, eq-eqb _ _ c.if-kind-eq3.true)
+returns-in-3 c = rw c.in-3.is
 
-pub returns : goal.returns
+pub returns-in_default : goal.returns-in_default
 unfolding typed_length
-returns c = rw (ne_eqb _ _ c.if-kind-eq2.false, ne_eqb _ _ c.if-kind-eq3.false)
+returns-in_default c = grind (arith, nat_tests, c.in_default)

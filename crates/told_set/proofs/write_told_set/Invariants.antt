@@ -1,10 +1,6 @@
 -- `told_set::write_told_set` meets its contract.
-use Prim.Native.Nat.{◌-◌}
 use Rattle.told_set.proofs.Chains.{Telling}
 use Rattle.told_set.proofs.write_told_set.Given as goal
 
 abbrev pub invariant-loop-k : goal.invariant-loop-k
 invariant-loop-k l = Telling l.width l.phys l.permissions l.phy.0 l.source.0 l.initial.set l.set l.slots l.next l.k
-
-abbrev pub decreases-loop-k : goal.decreases-loop-k
-decreases-loop-k l = l.count - l.k

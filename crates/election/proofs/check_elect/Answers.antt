@@ -1,6 +1,6 @@
--- `election::elect_refusal` meets its contract.
+-- `election::check_elect` meets its contract.
 use Rattle.tables.proofs.RefusalLaws.{rows}
-use Rattle.election.proofs.elect_refusal.Goals as goal
+use Rattle.election.proofs.check_elect.Goals as goal
 
 pub returns-then-not-phys_sized : goal.returns-then-not-phys_sized
 returns-then-not-phys_sized c = search rows depth 16

@@ -5,6 +5,7 @@ ghost use Rattle.std.specs.Prelude.{◌≡◌, ◌+◌, ◌*◌, ◌≤◌, ◌<
 ghost use Rattle.tables.specs.Refusals.{first_refusal};
 ghost use Rattle.tables.specs.Numbers.{refused};
 ghost use Rattle.lines.specs.Written.{Wrote};
+ghost use Rattle.file_trailer.specs.Answers.{version_number};
 ghost use Rattle.file_trailer.specs.Trailer.{two, four, trailer, version_of, count_of, offset_of, size_of, lengths_checks};
 
 use tables::refusal::Refusal;
@@ -14,6 +15,17 @@ use tables::refusal::Refusal;
 pub enum Version {
     One,
     Two,
+}
+
+impl From<Version> for u16 {
+    ghost from_gives = { λ version n. n ≡ version_number version };
+
+    fn from(version: Version) -> u16 {
+        match version {
+            Version::One => 1,
+            Version::Two => 2,
+        }
+    }
 }
 
 // The bytes of the trailer that both versions have, and the room that both saves ask for.

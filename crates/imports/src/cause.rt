@@ -13,11 +13,11 @@ pub enum Cause {
     NoRight,
 }
 
-impl Cause {
-    pub fn number(self) -> u8
-        ensures { result ≡ number self }
-    {
-        match self {
+impl From<Cause> for u8 {
+    ghost from_gives = { λ cause n. n ≡ number cause };
+
+    fn from(cause: Cause) -> u8 {
+        match cause {
             Cause::BadText => 1,
             Cause::NoSuchGroup => 2,
             Cause::NoRight => 3,

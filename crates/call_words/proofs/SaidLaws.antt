@@ -4,12 +4,11 @@ use mathlib.Core.Path.{◌≡◌, refl, ap, ◌∙◌, subst}
 use mathlib.Core.Bool.{cond}
 use mathlib.Core.List.{List, [], ◌∷◌}
 use Prim.Native.Nat.{ℕ, ◌+◌, ◌≤◌}
-use native.Mathlib.Omega.{arith}
-use borrow.Author.Tests.{eq-eqb, ne_eqb}
+use borrow.Author.Tests.{eq-eqb}
 use lib.Dec.{eqb}
 use Rattle.tables.specs.Outcome.{Answer, Out, out}
 use Rattle.links.specs.Links.{identify_out}
-use Rattle.lines.specs.Words.{K, words, reply_words, link_words}
+use Rattle.lines.specs.Words.{words, reply_words, link_words}
 use Rattle.lines.specs.Written.{Wrote}
 use Rattle.call_words.specs.Gives.{Given, unknown, given, answer_of, buffer, smp_left, link_left}
 use Rattle.call_words.specs.Inner.{Gave}
@@ -39,10 +38,7 @@ pub of_payload : (phys : List ℕ) (phy : ℕ) (address payload : List ℕ) (dev
     → o ≡ identify_out phys phy address device attached → address ≡ payload → o ≡ identify_out phys phy payload device attached
 of_payload phys phy address payload device attached o e p = e ∙ ap (λ (l : List ℕ). identify_out phys phy l device attached) p
 
--- ---- a payload of another length, and of the right one
+-- ---- a payload of the right length
 module _ (g : Given) (t : List ℕ) (at end : ℕ) (t₁ phys permissions : List ℕ) (n m : ℕ) where
-  pub wrong_length : (n ≡ m → ⊥) → Wrote t at (K ∷ []) end t₁ → Gave (cond (eqb n m) g (unknown phys permissions)) t at end t₁ phys permissions
-  wrong_length h w = rw (ne_eqb n m h) (record { said = w; short = omega (arith, w.ends); phys = refl; permissions = refl })
-
   pub right-length : (phys₁ : List ℕ) → n ≡ m → Gave g t at end t₁ phys₁ permissions → Gave (cond (eqb n m) g (unknown phys permissions)) t at end t₁ phys₁ permissions
   right-length phys₁ h w = rw (eq-eqb n m h) w

@@ -122,12 +122,12 @@ pub fn primitive_words(
     requires { at + 31 ≤ length text.old }
     ensures { Gave (cond (eqb (length payload.now) 1) (primitive_gives phys.now permissions.now phy.0 payload.now) (unknown phys.now permissions.now)) text.old at result text.new phys.now permissions.now }
 {
-    if payload.len() != 1 {
+    let [number] = payload else {
         return lines::put_byte(b'K', text, at);
-    }
+    };
     let mut set = [0u8; 16];
     let mut frame = [0u8; 28];
-    let told = broadcasts::primitive(phys, permissions, phy, payload[0], &mut set, &mut frame);
+    let told = broadcasts::primitive(phys, permissions, phy, *number, &mut set, &mut frame);
     told_words(told, text, at)
 }
 
@@ -171,7 +171,7 @@ pub fn leaving_words(
     requires { at + 31 ≤ length text.old }
     ensures { (permissions : List ℕ) → Gave (cond (eqb (length payload.now) 0) (leaving_gives phys.old permissions phy.0) (unknown phys.old permissions)) text.old at result text.new phys.new permissions }
 {
-    if payload.len() != 0 {
+    if !payload.is_empty() {
         return lines::put_byte(b'K', text, at);
     }
     let linked = links::leaving(phys, phy);
@@ -189,10 +189,9 @@ pub fn identify_words(
     requires { at + 31 ≤ length text.old }
     ensures { (permissions : List ℕ) → Gave (cond (eqb (length payload.now) 8) (identify_gives phys.old permissions phy.0 payload.now) (unknown phys.old permissions)) text.old at result text.new phys.new permissions }
 {
-    if payload.len() != 8 {
+    let Ok(address) = <[u8; 8]>::try_from(payload) else {
         return lines::put_byte(b'K', text, at);
-    }
-    let address = wire::eight(payload);
+    };
     let linked = links::identify(phys, phy, &address, DEVICE, ATTACHED);
     linked_words(linked, text, at)
 }

@@ -1,7 +1,7 @@
 // Events at the bench rack: the call that an event makes, and its line of text.
 #![tactic(auto)]
 
-ghost use Rattle.std.specs.Prelude.{◌≡◌, [], ◌∷◌, ◌+◌, ◌≤◌, length};
+ghost use Rattle.std.specs.Prelude.{◌≡◌, [], ◌∷◌, ◌+◌, ◌<◌, ◌≤◌, length, MatchOption};
 ghost use Rattle.lines.specs.Text.{line};
 ghost use Rattle.lines.specs.Words.{T, first_line};
 ghost use Rattle.lines.specs.Written.{Wrote};
@@ -9,6 +9,9 @@ ghost use Rattle.call_words.specs.Inner.{Gave};
 ghost use Rattle.events.specs.Events.{event_gives, event_length};
 ghost use Rattle.events.specs.Inner.{Lined};
 
+pub mod kind;
+
+use kind::{Kind, UnknownKind};
 use wire::PhyNumber;
 
 // The event's kind picks the call.
@@ -22,18 +25,24 @@ fn event_words(
     requires { (5 ≤ length event.now) × (at + 31 ≤ length text.old) }
     ensures { Gave (event_gives event.now phys.old permissions.old) text.old at result text.new phys.new permissions.new }
 {
-    let kind = event[0];
     let phy = PhyNumber(event[1]);
     let carried = event[2];
-    let payload = &event[5..event.len()];
-    match kind {
-        1 => call_words::smp_words(phys, permissions, phy, carried, payload, text, at),
-        2 => call_words::open_words(phys, permissions, phy, payload, text, at),
-        3 => call_words::primitive_words(phys, permissions, phy, payload, text, at),
-        4 => call_words::frame_words(phys, permissions, phy, payload, text, at),
-        5 => call_words::identify_words(phys, phy, payload, text, at),
-        6 => call_words::leaving_words(phys, phy, payload, text, at),
-        _ => lines::put_byte(b'K', text, at),
+    let payload = &event[5..];
+    match Kind::try_from(event[0]) {
+        Ok(Kind::Smp) => call_words::smp_words(phys, permissions, phy, carried, payload, text, at),
+        Ok(Kind::Open) => call_words::open_words(phys, permissions, phy, payload, text, at),
+        Ok(Kind::Primitive) => call_words::primitive_words(
+            phys,
+            permissions,
+            phy,
+            payload,
+            text,
+            at,
+        ),
+        Ok(Kind::Frame) => call_words::frame_words(phys, permissions, phy, payload, text, at),
+        Ok(Kind::Identify) => call_words::identify_words(phys, phy, payload, text, at),
+        Ok(Kind::Leaving) => call_words::leaving_words(phys, phy, payload, text, at),
+        Err(UnknownKind(_)) => lines::put_byte(b'K', text, at),
     }
 }
 
@@ -63,18 +72,18 @@ pub fn cut_line(number: u64, text: &mut [u8]) -> usize
     lines::put_bytes(b" T\n", text, a)
 }
 
-// How many bytes the event at the front of `bytes` has: 0 where it is cut off.
-pub fn event_length(bytes: &[u8]) -> usize
-    ensures { (result ≡ event_length bytes.now) × (result ≤ length bytes.now) }
+// How many bytes the event at the front of `bytes` has; none where it is cut off.
+pub fn event_length(bytes: &[u8]) -> Option<usize>
+    ensures { MatchOption result (event_length bytes.now ≡ 0) (λ n. (n ≡ event_length bytes.now) × (0 < n) × (n ≤ length bytes.now)) }
 {
-    if bytes.len() < 5 {
-        return 0;
+    let [_, _, _, high, low, payload @ ..] = bytes else {
+        return None;
+    };
+    let length = u16::from_be_bytes([*high, *low]) as usize;
+    if payload.len() < length {
+        return None;
     }
-    let length = 5 + (wire::index(bytes[3]) * 256 + wire::index(bytes[4]));
-    if bytes.len() < length {
-        return 0;
-    }
-    length
+    Some(5 + length)
 }
 
 // The first line of every run.

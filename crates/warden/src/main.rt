@@ -52,29 +52,24 @@ fn more<R: Read, W: Write>(
     requires { (unread.have ≤ length window.old) × (65536 ≤ length text.old) }
     ensures { MatchControlFlow result (λ next. (next.have ≤ length window.new) × (next.number ≡ unread.number)) (λ last. (last.have ≤ length window.new) × (last.number ≡ unread.number)) }
 {
-    let Unread {
-        at,
-        have,
-        number,
-        skipping,
-    } = unread;
-    if have - at == window.len() {
-        too_long(writer, number, skipping, text);
+    let left = unread.have - unread.at;
+    if left == window.len() {
+        too_long(writer, unread.number, unread.skipping, text);
         return ControlFlow::Continue(Unread {
             at: 0,
             have: 0,
-            number,
+            number: unread.number,
             skipping: true,
         });
     }
-    let now_have = window::refill(reader, window, at, have);
+    let have = window::refill(reader, window, unread.at, unread.have);
     let refilled = Unread {
         at: 0,
-        have: now_have,
-        number,
-        skipping,
+        have,
+        number: unread.number,
+        skipping: unread.skipping,
     };
-    if have - at < now_have {
+    if left < have {
         ControlFlow::Continue(refilled)
     } else {
         ControlFlow::Break(refilled)
@@ -91,19 +86,19 @@ fn turn<R: Read, W: Write>(
     requires { (unread.have ≤ length window.old) × (65536 ≤ length text.old) × (unread.number + 1 < 18446744073709551616) }
     ensures { MatchControlFlow result (λ next. (next.have ≤ length window.new) × (next.number ≤ unread.number + 1)) (λ last. (last.have ≤ length window.new) × (last.number ≤ unread.number + 1)) }
 {
-    let Unread {
-        at,
-        have,
-        number,
-        skipping,
-    } = unread;
-    let end = warden_words::line_end(&window[..have], at);
-    if end < have {
-        answer(writer, &window[at..end], number, skipping, text);
+    let end = warden_words::line_end(&window[..unread.have], unread.at);
+    if end < unread.have {
+        answer(
+            writer,
+            &window[unread.at..end],
+            unread.number,
+            unread.skipping,
+            text,
+        );
         return ControlFlow::Continue(Unread {
             at: end + 1,
-            have,
-            number: number + 1,
+            have: unread.have,
+            number: unread.number + 1,
             skipping: false,
         });
     }
@@ -138,13 +133,14 @@ fn answer_ended<R: Read, W: Write>(
 fn run<R: Read, W: Write>(reader: &mut R, writer: &mut W, window: &mut [u8], text: &mut [u8])
     requires { 65536 ≤ length text.old }
 {
-    let Unread {
-        at,
-        have,
-        number,
-        skipping,
-    } = answer_ended(reader, writer, window, text);
-    answer(writer, &window[at..have], number, skipping, text);
+    let last = answer_ended(reader, writer, window, text);
+    answer(
+        writer,
+        &window[last.at..last.have],
+        last.number,
+        last.skipping,
+        text,
+    );
 }
 
 fn main(rt: HostRuntime) {

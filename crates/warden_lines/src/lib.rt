@@ -149,6 +149,7 @@ fn take_phys(line: &[u8], from: usize, entries: &mut [u8]) -> Option<usize>
 {
     let mut at = from;
     let mut count: usize = 0;
+    // By hand: only the word that is taken says where the next one starts.
     while at < line.len() {
         let k = count.min(128);
         at = take_phy(line, at, entries, k)?;
@@ -206,6 +207,7 @@ fn take_rows(line: &[u8], from: usize, choices: &mut [u8]) -> Option<Rows>
         row: 0,
         high: false,
     };
+    // By hand: only the word that is taken says where the next one starts.
     while spot.at < line.len() {
         spot = take_group(line, spot, choices)?;
     }
@@ -266,6 +268,7 @@ fn take_bytes(line: &[u8], from: usize, bytes: &mut [u8]) -> Option<usize>
 {
     let mut at = from;
     let mut count: usize = 0;
+    // By hand: only the word that is taken says where the next one starts.
     while at < line.len() {
         let byte = warden_words::hex_at(line, at)?;
         let k = count.min(1020);

@@ -1,13 +1,14 @@
 -- A run over the whole events of a window: its steps, where it stops, and the loop that makes it.
 -- Assumes nothing.
-use mathlib.Core.Path.{◌≡◌, refl, sym, ap, ◌∙◌}
+use mathlib.Core.Path.{◌≡◌, refl, sym, ap, ◌∙◌, subst}
+use Rattle.std.specs.Prelude.{Option, MatchOption}
 use mathlib.Core.List.{List, [], ◌∷◌, ◌++◌, append-nil, append_assoc}
 use Prim.Native.Nat.{ℕ, zero, suc, ◌+◌, ◌-◌, ◌≤◌, ◌<◌}
 use native.Mathlib.Nat.{add-zero, zero-add, add_assoc, sub-zero, sub_self}
 use native.Mathlib.Decide.{dec_lt}
 use native.Mathlib.Omega.{arith}
 use borrow.Author.Tests.{eq-eqb, ne_eqb, lt-ltb, le-ltb}
-use lib.ListN.{length, take, drop, length-take, length-drop, drop_of_length-le}
+use lib.ListN.{length, take, drop, length-drop, drop_of_length-le}
 use lib.Seq.{take_all, drop-drop, sets-eq}
 use Rattle.lines.specs.Text.{line}
 use Rattle.call_words.specs.Gives.{Given}
@@ -21,13 +22,17 @@ use Rattle.bench_text.specs.Run.{Ran, stopped, onward, ready, run_of, run_over, 
 use Rattle.bench_text.proofs.StreamLaws.{whole_event}
 
 -- ---- the event that is run next
-pub no_room : (room : ℕ) (bytes : List ℕ) → room < 64 → (0 ≡ ready room bytes) × (0 ≤ length bytes)
+pub no_room : (room : ℕ) (bytes : List ℕ) → room < 64 → ready room bytes ≡ 0
 unfolding ready
-no_room room bytes h = (rw (lt-ltb _ _ h), omega arith)
+no_room room bytes h = rw (lt-ltb _ _ h)
 
-pub has_room : (room n : ℕ) (bytes : List ℕ) → 64 ≤ room → (n ≡ event_length bytes) × (n ≤ length bytes) → (n ≡ ready room bytes) × (n ≤ length bytes)
+pub has_room : (room : ℕ) (bytes : List ℕ) (r : Option ℕ) → 64 ≤ room
+    → MatchOption r (event_length bytes ≡ 0) (λ n. (n ≡ event_length bytes) × (0 < n) × (n ≤ length bytes))
+    → MatchOption r (ready room bytes ≡ 0) (λ n. (n ≡ ready room bytes) × (0 < n) × (n ≤ length bytes))
 unfolding ready
-has_room room n bytes h e = (rw (le-ltb _ _ h) e.0, e.1)
+has_room room bytes r h e =
+    let same : event_length bytes ≡ ready room bytes = rw (le-ltb room 64 h) in
+    subst (λ (k : ℕ). MatchOption r (k ≡ 0) (λ n. (n ≡ k) × (0 < n) × (n ≤ length bytes))) same e
 
 -- one that is run is whole, and its line has room
 pub record Next (room : ℕ) (bytes : List ℕ) (n : ℕ) : Type 0 where
@@ -70,24 +75,22 @@ onward_twice : (a b : ℕ) (x y : List ℕ) (r : Ran) → onward a x (onward b y
 onward_twice a b x y r = rw (add_assoc a b r.taken, append_assoc x y r.lines)
 
 -- ---- the loop: what is run so far and what is left to run are the whole run
-pub record Going (window : List ℕ) (number₀ : ℕ) (text₀ phys₀ permissions₀ phys permissions text : List ℕ) (at number used n : ℕ) : Type 0 where
+pub record Going (window : List ℕ) (number₀ : ℕ) (text₀ phys₀ permissions₀ phys permissions text : List ℕ) (at number used : ℕ) : Type 0 where
   pub out : List ℕ
   pub said : Wrote text₀ 0 out used text
   pub same : length text ≡ length text₀
   pub same_phys : length phys ≡ length phys₀
   pub same_permissions : length permissions ≡ length permissions₀
   pub room : used ≤ length text
-  pub inside : at + n ≤ length window
+  pub inside : at ≤ length window
   pub from : number₀ ≤ number
   pub events : number ≤ number₀ + at
-  pub next : n ≡ ready (length text - used) (drop at window)
   pub left : run_over window number₀ (length text₀) phys₀ permissions₀
       ≡ onward at out (run_of (length window - (number - number₀)) (drop at window) number (length text - used) phys permissions)
 
-pub going_start : (window : List ℕ) (number : ℕ) (text phys permissions : List ℕ) (n : ℕ)
-    → (n ≡ ready (length text) window) × (n ≤ length window) → Going window number text phys permissions phys permissions text 0 number 0 n
+pub going_start : (window : List ℕ) (number : ℕ) (text phys permissions : List ℕ) → Going window number text phys permissions phys permissions text 0 number 0
 unfolding written
-going_start window number text phys permissions n e = record {
+going_start window number text phys permissions = record {
   out = [];
   said = record { ends = refl; wrote = refl };
   same = refl;
@@ -97,32 +100,34 @@ going_start window number text phys permissions n e = record {
   inside = omega arith;
   from = omega arith;
   events = omega arith;
-  next = rw sub-zero e.0;
   left = rw (sub-zero (length text), sub_self number, sub-zero (length window), zero-add);
 }
 
-module _ (window : List ℕ) (number₀ : ℕ) (text₀ phys₀ permissions₀ phys permissions text : List ℕ) (at number used n : ℕ) where
-  -- the event is whole, and the text has room for a line
-  pub next_at : 0 < n → Going window number₀ text₀ phys₀ permissions₀ phys permissions text at number used n
-      → Next (length text - used) (drop at window) n
-  next_at z r = next_is (length text - used) (drop at window) n r.next z
+-- the bytes from `at` on, as the code has them
+rest : (window : List ℕ) (at : ℕ) → take (length window - at) (drop at window) ≡ drop at window
+rest window at = take_all _ _ (simp length-drop (omega arith))
 
-  pub going_again : (used₁ : ℕ) (text₁ phys₁ permissions₁ : List ℕ) (n₁ : ℕ) → 0 < n
+module _ (window text : List ℕ) (at used : ℕ) where
+  -- the event that is run next is whole, and the text has room for a line
+  pub next_at : (n : ℕ) → n ≡ ready (length text - used) (take (length window - at) (drop at window)) → 0 < n → Next (length text - used) (drop at window) n
+  next_at n e z = next_is (length text - used) (drop at window) n (rw (rest window at) at e) z
+
+module _ (window : List ℕ) (number₀ : ℕ) (text₀ phys₀ permissions₀ phys permissions text : List ℕ) (at number used : ℕ) where
+  pub going_again : (n used₁ : ℕ) (text₁ phys₁ permissions₁ : List ℕ)
+      → (n ≡ ready (length text - used) (take (length window - at) (drop at window))) × (0 < n) × (n ≤ length (take (length window - at) (drop at window)))
       → Put number (event_gives (take (at + n - at) (drop at window)) phys permissions) text used used₁ text₁ phys₁ permissions₁
       → length text₁ ≡ length text → length phys₁ ≡ length phys → length permissions₁ ≡ length permissions
-      → (n₁ ≡ ready (length text₁ - used₁) (take (length window - (at + n)) (drop (at + n) window)))
-      × (n₁ ≤ length (take (length window - (at + n)) (drop (at + n) window)))
-      → Going window number₀ text₀ phys₀ permissions₀ phys permissions text at number used n
-      → Going window number₀ text₀ phys₀ permissions₀ phys₁ permissions₁ text₁ (at + n) (number + 1) used₁ n₁
-  going_again used₁ text₁ phys₁ permissions₁ n₁ z p same same_phys same_permissions e r =
+      → Going window number₀ text₀ phys₀ permissions₀ phys permissions text at number used
+      → Going window number₀ text₀ phys₀ permissions₀ phys₁ permissions₁ text₁ (at + n) (number + 1) used₁
+  going_again n used₁ text₁ phys₁ permissions₁ e p same same_phys same_permissions r =
       let i = r.inside in
-      let f = (next_at z r).fits in
+      let x = next_at window text at used n e.0 e.1 in
+      let least = x.least in
+      let there : n + at ≤ length window = omega (arith, x.there, length-drop at window) in
       let m = length window - (number + 1 - number₀) in
       let g = event_gives (take n (drop at window)) phys permissions in
       let s : at + n - at ≡ n = omega arith in
       let q = rw s at p in
-      let d : length (drop (at + n) window) ≤ length window - (at + n) = simp length-drop (omega arith) in
-      let t : take (length window - (at + n)) (drop (at + n) window) ≡ drop (at + n) window = take_all _ _ d in
       let fuel : length window - (number - number₀) ≡ suc m = omega (arith, r.from, r.events) in
       let less_room : length text - used - length (line number g.said) ≡ length text₁ - used₁ = omega (arith, q.said.ends) in
       record {
@@ -132,25 +137,24 @@ module _ (window : List ℕ) (number₀ : ℕ) (text₀ phys₀ permissions₀ p
         same_phys = same_phys ∙ r.same_phys;
         same_permissions = same_permissions ∙ r.same_permissions;
         room = omega (arith, q.short);
-        inside = omega (arith, e.1, rw t at e.1, length-drop (at + n) window);
+        inside = omega arith;
         from = omega (arith, r.from);
         events = omega (arith, r.events);
-        next = rw t at e.0;
         left =
             r.left
             ∙ ap (λ (k : ℕ). onward at r.out (run_of k (drop at window) number (length text - used) phys permissions)) fuel
-            ∙ ap (onward at r.out) (run_step m (drop at window) number (length text - used) phys permissions n r.next z)
+            ∙ ap (onward at r.out) (run_step m (drop at window) number (length text - used) phys permissions n (rw (rest window at) at e.0) e.1)
             ∙ onward_twice at n r.out (line number g.said) _
             ∙ rw (drop-drop n at window, less_room, q.phys, q.permissions);
       }
 
-  pub going_end : n ≤ 0 → Going window number₀ text₀ phys₀ permissions₀ phys permissions text at number used n
+  pub going_end : ready (length text - used) (take (length window - at) (drop at window)) ≡ 0
+      → Going window number₀ text₀ phys₀ permissions₀ phys permissions text at number used
       → Told (run_over window number₀ (length text₀) phys₀ permissions₀) text₀ at number used text phys permissions
       × Within window text₀ number₀ at number used
-  going_end h r =
-      let z : n ≡ 0 = omega arith in
+  going_end z r =
       let e : run_over window number₀ (length text₀) phys₀ permissions₀ ≡ onward at r.out (stopped number phys permissions) =
-      r.left ∙ ap (onward at r.out) (run_none _ (drop at window) number (length text - used) phys permissions (sym z ∙ r.next)) in (
+      r.left ∙ ap (onward at r.out) (run_none _ (drop at window) number (length text - used) phys permissions (sym (rw (rest window at) at z))) in (
         record {
           taken = sym (ap (λ (x : Ran). x.taken) e ∙ add-zero at);
           number = sym (ap (λ (x : Ran). x.number) e);

@@ -1,7 +1,7 @@
 // The bench's text below the program: a run over the whole events of a window, and the end of the input.
 #![tactic(auto)]
 
-ghost use Rattle.std.specs.Prelude.{◌≡◌, ◌+◌, ◌*◌, ◌<◌, ◌≤◌, length};
+ghost use Rattle.std.specs.Prelude.{◌≡◌, ◌+◌, ◌*◌, ◌<◌, ◌≤◌, length, MatchOption};
 ghost use Rattle.tables.specs.Phys.{phy_record};
 ghost use Rattle.events.specs.Events.{event_gives};
 ghost use Rattle.lines.specs.Written.{Wrote};
@@ -9,7 +9,7 @@ ghost use Rattle.bench_text.specs.Stream.{ending};
 ghost use Rattle.bench_text.specs.Run.{begun, ready, run_over, Told, Within, Put};
 
 // How far a run came: the bytes that it took, the next event's number, and the bytes of text that it wrote.
-#[derive(Clone, Copy)]
+#[derive(Clone, Copy, Debug, PartialEq, Eq)]
 pub struct Progress {
     pub taken: usize,
     pub number: u64,
@@ -30,12 +30,12 @@ pub fn begin(phys: &mut [u8], permissions: &mut [u8], text: &mut [u8]) -> Progre
     }
 }
 
-// How many bytes the event has that is run next; 0 where there is none, or no room for its line.
-fn next_event(bytes: &[u8], room: usize) -> usize
-    ensures { (result ≡ ready room bytes.now) × (result ≤ length bytes.now) }
+// How many bytes the event has that is run next; none where there is no such event, or no room for its line.
+fn next_event(bytes: &[u8], room: usize) -> Option<usize>
+    ensures { MatchOption result (ready room bytes.now ≡ 0) (λ n. (n ≡ ready room bytes.now) × (0 < n) × (n ≤ length bytes.now)) }
 {
     if room < 64 {
-        return 0;
+        return None;
     }
     events::event_length(bytes)
 }
@@ -70,13 +70,11 @@ pub fn run_events(
     let mut at: usize = 0;
     let mut next = number;
     let mut used: usize = 0;
-    let mut n = next_event(window, text.len());
-    while 0 < n {
+    while let Some(n) = next_event(&window[at..], text.len() - used) {
         let stop = at + n;
         used = put_event(phys, permissions, &window[at..stop], next, text, used);
         at = stop;
         next += 1;
-        n = next_event(&window[at..], text.len() - used);
     }
     Progress {
         taken: at,
@@ -90,7 +88,7 @@ pub fn end_line(rest: &[u8], number: u64, text: &mut [u8]) -> usize
     requires { 64 ≤ length text.old }
     ensures { Wrote text.old 0 (ending number rest.now) result text.new × (result ≤ length text.old) }
 {
-    if rest.len() == 0 {
+    if rest.is_empty() {
         return 0;
     }
     events::cut_line(number, text)

@@ -34,12 +34,7 @@ pub fn put_too_long(number: u64, text: &mut [u8]) -> usize
     requires { 65536 ≤ length text.old }
     ensures { result ≤ length text.new }
 {
-    let a = put_line_number(number, text);
-    lines::put_bytes(
-        b"expected at most 65535 bytes before the line's end\n",
-        text,
-        a,
-    )
+    put_wrong(b"at most 65535 bytes before the line's end", number, text)
 }
 
 // Too little room cannot be: the buffers that are lent here are as large as the console asks.

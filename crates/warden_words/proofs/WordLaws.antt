@@ -17,9 +17,9 @@ pointwise-same [] (y ∷ b) = refl
 pointwise-same (x ∷ a) [] = refl
 pointwise-same (x ∷ a) (y ∷ b) = ap (λ v. eqb x y && v) (pointwise-same a b)
 
-pub same_lengths : (a b : List ℕ) → same a b ≡ true → length a ≡ length b
+pub lengths_of_same : (a b : List ℕ) → same a b ≡ true → length a ≡ length b
 unfolding same
-same_lengths [] [] e = refl
-same_lengths [] (y ∷ b) e = grind arith
-same_lengths (x ∷ a) [] e = grind arith
-same_lengths (x ∷ a) (y ∷ b) e = grind (arith, same_lengths a b)
+lengths_of_same [] [] e = refl
+lengths_of_same [] (y ∷ b) e = grind arith
+lengths_of_same (x ∷ a) [] e = grind arith
+lengths_of_same (x ∷ a) (y ∷ b) e = grind (arith, lengths_of_same a b)

@@ -1,6 +1,6 @@
 -- Numbers in words: decimal, held at 255, and bytes of two hex digits.
-use Rattle.std.specs.Prelude.{Bool, cond, not, ◌&&◌, List, [], ◌∷◌, ℕ, ◌+◌, ◌-◌, ◌*◌, eqb, ltb, length, Option, None, Some}
-use Rattle.warden_words.specs.Words.{run, between, word_at, next_word}
+use Rattle.std.specs.Prelude.{Bool, cond, not, ◌&&◌, List, [], ◌∷◌, ℕ, ◌+◌, ◌-◌, ◌*◌, eqb, ltb, length, get_or, Option, None, Some}
+use Rattle.warden_words.specs.Words.{run, between, word_end, word_at, next_word}
 use Rattle.warden_words.specs.declared.Kind.TheVariants.{Digit}
 use Rattle.warden_words.specs.declared.Read.{Read}
 
@@ -26,6 +26,16 @@ hex_value b =
     (cond (between 97 102 b) (Some (b - 87))
     (cond (between 65 70 b) (Some (b - 55))
     None))
+
+-- the byte of two hex digits
+abbrev pub hex_byte : Option ℕ → Option ℕ → ℕ → Option Read
+hex_byte (Some high) (Some low) next = Some (record { value = 16 * high + low; next = next })
+hex_byte (Some high) None next = None
+hex_byte None low next = None
+
+-- the byte that the word is, if it is one, and where the next word starts
+abbrev pub hex_at : List ℕ → ℕ → Option Read
+hex_at line at = cond (eqb (word_end line at - at) 2) (hex_byte (hex_value (get_or line at 0)) (hex_value (get_or line (at + 1) 0)) (next_word line at)) None
 
 -- the number that the word is, if it is one, and where the next word starts
 abbrev pub number_at : List ℕ → ℕ → Option Read

@@ -5,7 +5,7 @@
 ghost use Rattle.std.specs.Prelude.{◌≡◌, cond, ◌+◌, ◌*◌, ◌-◌, ◌<◌, ◌≤◌, length, IfSome, Some, None};
 ghost use Rattle.warden_words.specs.Words.{of_kind, run, run_end, word_end, word_at, next_word};
 ghost use Rattle.warden_words.specs.Words as words;
-ghost use Rattle.warden_words.specs.Numbers.{numeric, at_most, held, hex_value, number_at};
+ghost use Rattle.warden_words.specs.Numbers.{numeric, at_most, held, hex_value, hex_at, number_at};
 ghost use Rattle.warden_words.specs.declared.Kind.TheVariants.{Blank, InLine};
 
 // What a run of bytes is made of.
@@ -151,7 +151,7 @@ fn hex_value(b: u8) -> Option<u8>
 
 pub fn hex_at(line: &[u8], at: usize) -> Option<Read>
     requires { at ≤ length line.now }
-    ensures { IfSome result (λ read. (at < read.next) × (read.next ≤ length line.now)) }
+    ensures { (result ≡ hex_at line.now at) × IfSome result (λ read. (at < read.next) × (read.next ≤ length line.now)) }
 {
     let end = word_end(line, at);
     if end - at != 2 {

@@ -99,9 +99,6 @@ pub record Switched (w : ℕ) (t₀ rs t rest : List ℕ) : Type 0 where
   pub valid : Valid w (orders_of rest)
   pub done : apply w (orders_of rs) t₀ ≡ apply w (orders_of rest) t
 
-pub switched_start : (w : ℕ) (t rs : List ℕ) → Table w t → length rs % 2 ≡ 0 → Valid w (orders_of rs) → Switched w t rs t rs
-switched_start w t rs l e v = record { even = e; table = l; valid = v; done = refl }
-
 module _ (w : ℕ) (t₀ rs t rest : List ℕ) (s : Switched w t₀ rs t rest) where
   module _ (x rest' : List ℕ) (e : rest ≡ x ++ rest') (l : length x ≡ 2) where
     left_valid : Valid w (orders_of (get_or x 0 0 ∷ get_or x 1 0 ∷ rest'))

@@ -124,9 +124,6 @@ pub record Counted (count : ℕ) (b : List ℕ) (low : ℕ) (rest : List ℕ) : 
   pub whole : length rest % 3 ≡ 0
   pub said : numbered count 0 b ≡ numbered count low rest
 
-pub counted_start : (count : ℕ) (b : List ℕ) → length b % 3 ≡ 0 → Counted count b 0 b
-counted_start count b e = record { whole = e; said = refl }
-
 module _ (count : ℕ) (b : List ℕ) (low : ℕ) (rest : List ℕ) (s : Counted count b low rest) where
   module _ (e rest' : List ℕ) (p : rest ≡ e ++ rest') (l : length e ≡ 3) where
     pub counted_below : get_or e 0 0 < low → false ≡ numbered count 0 b
@@ -168,9 +165,6 @@ pub record Rezoned (phys₀ b phys rest : List ℕ) : Type 0 where
   pub same : length phys ≡ length phys₀
   pub there : Below (phy_count phys₀) rest
   pub done : rezoned phys₀ b ≡ rezoned phys rest
-
-pub rezoned-start : (phys b : List ℕ) → length b % 3 ≡ 0 → Below (phy_count phys) b → Rezoned phys b phys b
-rezoned-start phys b e h = record { whole = e; same = refl; there = h; done = refl }
 
 module _ (phys₀ b phys rest : List ℕ) (s : Rezoned phys₀ b phys rest) where
   module _ (e rest' : List ℕ) (p : rest ≡ e ++ rest') (l : length e ≡ 3) where

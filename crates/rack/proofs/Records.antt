@@ -41,9 +41,6 @@ pub record Stored (t₀ t : List ℕ) (i : ℕ) : Type 0 where
   pub same : length t ≡ length t₀
   pub left : written t (i * phy_record) (flat (drop i rack)) ≡ written t₀ 0 (flat rack)
 
-pub stored_start : (t : List ℕ) → Stored t t 0
-stored_start t = record { within = omega arith; same = refl; left = refl }
-
 pub stored_again : (t₀ t t₁ : List ℕ) (i : ℕ) → i < 8 → t₁ ≡ written t (i * phy_record) (bytes_of (get_or rack i (record { first = 0; group = 0; flags = 0; address = [] }))) → Stored t₀ t i
     → Stored t₀ t₁ (i + 1)
 unfolding flat blank

@@ -17,7 +17,7 @@ pub struct Destination {
 }
 
 // The bytes are compared from the last to the first: addresses of one maker differ at the low end, so most records are left at the
-// first comparison. Whether the phy is ready is asked last, since few records come so far.
+// first comparison. Whether the phy is ready is asked last, since few records come so far. Two loops and a label: document 01 names that form.
 fn search_phys(phys: &[u8], frame: &[u8]) -> Option<Destination>
     requires { (length phys.now ≤ 128 * phy_record) × (length frame.now ≡ 28) }
     ensures { result ≡ find_phy phys.now frame.now 0 (phy_count phys.now) }
@@ -60,7 +60,7 @@ fn is_usable(phys: &[u8], p: PhyNumber) -> bool
     false
 }
 
-// Bytes first and from the last on, as in `search_phys`. A record of no group is skipped.
+// Bytes first and from the last on, in the form of `search_phys`. A record of no group is skipped.
 fn search_routes(phys: &[u8], routes: &[u8], frame: &[u8]) -> Option<Destination>
     requires { length frame.now ≡ 28 }
     ensures { result ≡ find_route phys.now routes.now frame.now 0 (route_count routes.now) }

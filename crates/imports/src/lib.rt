@@ -97,7 +97,7 @@ fn import_lines(width: usize, permissions: &mut [u8], source: ZoneGroup, sheet: 
 {
     let mut at: usize = 0;
     let mut lines: u32 = 0;
-    // By hand: only the line that is read says where the next one starts.
+    // By hand: how far a line goes is known only once it is read.
     while at < sheet.len() {
         match obey_line(width, permissions, source, sheet, at) {
             Ok(next) => {

@@ -30,7 +30,7 @@ fn decimal_digits(n: u64, figures: &mut [u8]) -> usize
 {
     let mut start: usize = 19;
     let mut rest = n;
-    // By hand: only the number that is left says how many digits are to come.
+    // By hand: it ends at the last digit, where a `for` over the places would need a return behind its end that no number reaches.
     while 9 < rest {
         figures[start] = 48 + (rest % 10) as u8;
         rest /= 10;

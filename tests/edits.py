@@ -41,7 +41,7 @@ def errors(log):
 
 def heads(source):
     """The functions of a source, each as it is found in it, from its attributes on."""
-    return list(re.finditer(r'^(?:#\[.*\]\n)*(?:pub )?(?:extern "C" )?fn (\w+)', source, re.M))
+    return list(re.finditer(r'^(?:[ \t]*#\[.*\]\n)*[ \t]*(?:pub )?(?:extern "C" )?fn (\w+)', source, re.M))
 
 
 def in_function(function, crate, place, _):

@@ -255,10 +255,6 @@ column_done w f r t u j h s = record {
 
 -- ---- a byte of the row for eight groups at a time
 module _ (w : ℕ) (bits first low r : ℕ) where
-  pub bits_start : (t : List ℕ) → length t ≡ table_size w → first + 8 ≤ groups w → low ≤ 8
-      → ColumnTo w (byte_has bits) r (first + low) t t (first + low)
-  bits_start t l h k = column_start w (byte_has bits) r (first + low) t l (omega arith)
-
   pub bits_again : (t u : List ℕ) (k i m x : ℕ) (v : Bool) → first + 8 ≤ groups w → first % 8 ≡ 0 → k < 8 → r < groups w
       → v ≡ eqb (bit bits k) 1 → i ≡ place w (first + k) r → m ≡ 2 ^ (r % 8) → Masked (get_or u i 0) m v x
       → ColumnTo w (byte_has bits) r (first + low) t u (first + k) → ColumnTo w (byte_has bits) r (first + low) t (set u i x) (first + (k + 1))
@@ -268,10 +264,6 @@ module _ (w : ℕ) (bits first low r : ℕ) where
       let n : first + k + 1 ≡ first + (k + 1) = omega arith in
       subst (λ (j : ℕ). ColumnTo w (byte_has bits) r (first + low) t (set u i x) j) n
       (column_again w (byte_has bits) r (first + low) t u (first + k) i m x v (omega arith) hr (e ∙ ap (λ (j : ℕ). eqb (bit bits j) 1) q) ei em ex s)
-
-  pub bits_done : (t u : List ℕ) (k : ℕ) → 8 ≤ k → first + 8 ≤ groups w → ColumnTo w (byte_has bits) r (first + low) t u (first + k)
-      → k ≤ 8 → ColumnTo w (byte_has bits) r (first + low) t u (first + 8)
-  bits_done t u k h hf s l = let e : k ≡ 8 = omega arith in subst (λ (j : ℕ). ColumnTo w (byte_has bits) r (first + low) t u (first + j)) e s
 
 -- row i's byte of eight groups says of them what the row says
 byte_row : (rows : List ℕ) (i q c : ℕ) → 8 * q ≤ c → c < 8 * q + 8 → byte_has (get_or rows (i * 16 + (15 - q)) 0) c ≡ P 16 rows i c

@@ -3,28 +3,36 @@
 use mathlib.Core.Path.{◌≡◌, sym, ap, ap₂, ◌∙◌}
 use mathlib.Core.Bool.{Bool, true, false, not, ◌&&◌}
 use mathlib.Core.List.{List, [], ◌∷◌, ◌++◌}
-use Prim.Native.Nat.{ℕ, min, ◌≤◌, ◌<◌}
+use Prim.Native.Nat.{ℕ, min, ◌≤◌}
 use native.Mathlib.Omega.{arith}
 use mir.Syntax.{w16}
 use mir.Val.{Fits}
 use borrow.Author.Tests.{not-true, not-false, leb-true}
 use lib.Dec.{leb}
 use lib.ListN.{length}
+use Rattle.std.proofs.Common.{Result, Err}
+use Rattle.std.specs.Bool.{⊤}
+use Rattle.std.specs.Result.{result_and}
 use Rattle.permit.specs.Permission.{permissions_sized}
+use Rattle.tables.specs.declared.refusal.Refusal.{Refusal}
+use Rattle.tables.specs.declared.refusal.Refusal.TheVariants.{WrongField}
+use Rattle.tables.specs.Numbers.{number, refused}
 use Rattle.tables.specs.Refusals.{Check, refuse, below, at_most, off, first_refusal, Clear}
 use Rattle.tables.specs.Outcome.{Answer, refusal, Out, out, outcome}
 use Rattle.tables.specs.Phys.{phy_count, phys_sized, ready}
 use Rattle.tables.specs.Routes.{routes_sized}
 use Rattle.tables.specs.Arrival.{unlike, arrival_checks}
 use Rattle.tables.proofs.ArrivalLaws.{both, phys_records, numbered}
-use Rattle.links.specs.Links.{leaving_out, identify_out, identify_front}
+use Rattle.links.specs.Links.{linked_as, leaving_out, identify_out, identify_front}
 use Rattle.opens.specs.Open.{open_out}
 use Rattle.broadcasts.specs.Broadcasts as broadcasts
 use Rattle.broadcasts.specs.Broadcasts.{primitive_out, broadcast_out}
+use Rattle.requests.specs.Results as results
 use Rattle.discover.specs.declared.Changes.{Changes}
-use Rattle.smp.specs.Smp.{room_for, smp_checks, smp_out}
+use Rattle.smp.specs.declared.Answered.{Answered}
+use Rattle.smp.specs.Smp.{answered_as, room_for, smp_checks, smp_out}
 use Rattle.boundary.specs.C.{given, fields, in_c, or_else, bytes_fit, identify_out_c, all_fit, counted, smp_out_c}
-use Rattle.boundary.proofs.Crossing.{crosses, stopped, clamped}
+use Rattle.boundary.proofs.Crossing.{crosses, turned_down, stopped, clamped}
 use Rattle.boundary.proofs.Boundary.{other_length, wide_device, no_byte, as_document_01}
 
 -- ---- a phy number from 255 on is refused as every other such number: by a table's size, or else as 2
@@ -121,9 +129,10 @@ fits_carried carried expander count f =
 pub count_fits : (carried expander count : ℕ) (b : Bool) → b ≡ all_fit carried (counted expander count) → not b ≡ false → Fits w16 expander
 count_fits carried expander count b eb f = let m = fits_carried carried expander count (sym eb ∙ not-false b f) in omega arith
 
-pub refused_own : (phys : List ℕ) (p own r n : ℕ) (fs : List ℕ) → r ≡ first_refusal (identify_front phys p) → n ≡ or_else r own → fs ≡ fields 0 (refusal n)
-    → fs ≡ fields 0 (refusal (or_else (first_refusal (identify_front phys p)) own))
-refused_own phys p own r n fs er en e = e ∙ ap (λ (m : ℕ). fields 0 (refusal m)) (en ∙ ap (λ (m : ℕ). or_else m own) er)
+pub refused_own : (phys : List ℕ) (p : ℕ) (own : Refusal) (r j : Result ⊤ Refusal) (fs : List ℕ) → refused r ≡ first_refusal (identify_front phys p) → j ≡ result_and r (Err own)
+    → fs ≡ fields 0 (linked_as j) → fs ≡ fields 0 (refusal (or_else (first_refusal (identify_front phys p)) (number own)))
+refused_own phys p own r j fs er ej e =
+    e ∙ ap (fields 0) (turned_down (λ _. []) r own j ej) ∙ ap (λ (m : ℕ). fields 0 (refusal (or_else m (number own)))) er
 
 -- ---- IDENTIFY
 module _ (phys address : List ℕ) (device attached : ℕ) where
@@ -173,13 +182,15 @@ module _ (w : ℕ) (phys permissions : List ℕ) (carried expander count : ℕ) 
 
   module _ (phy p : ℕ) (ep : p ≡ min phy 255) (b : Bool) (eb : b ≡ all_fit carried (counted expander count)) where
     -- a number does not fit
-    pub smp_wide : (r n : ℕ) (fs : List ℕ) → not b ≡ true
-        → ((k : Changes) → r ≡ first_refusal (smp_checks w phys permissions p 255 k request (room_for response set))) → n ≡ or_else r 5 → fs ≡ fields 3 (refusal n)
+    pub smp_wide : (r : Result ⊤ Refusal) (j : Result Answered Refusal) (fs : List ℕ) → not b ≡ true
+        → ((k : Changes) → refused r ≡ first_refusal (smp_checks w phys permissions p 255 k request (room_for response set)))
+        → j ≡ result_and r (Err WrongField) → fs ≡ fields 3 (answered_as j)
         → given fs (phys ∷ permissions ∷ response ∷ set ∷ []) ≡ in_c 3 (smp_out_c w phys permissions phy carried (counted expander count) request response set)
-    smp_wide r n fs f er en e =
+    smp_wide r j fs f er ej e =
         let none : Changes = counted 0 0 in
-        crosses 3 fs (refusal n) (phys ∷ permissions ∷ response ∷ set ∷ []) _ e
-        (ap (λ (m : ℕ). out (refusal m) (phys ∷ permissions ∷ response ∷ set ∷ [])) (en ∙ ap (λ (m : ℕ). or_else m 5) (er none))
+        crosses 3 fs (answered_as j) (phys ∷ permissions ∷ response ∷ set ∷ []) _ e
+        (ap (λ (x : Answer). out x (phys ∷ permissions ∷ response ∷ set ∷ []))
+        (turned_down (λ a. results.number a.result ∷ a.length ∷ a.told ∷ []) r WrongField j ej ∙ ap (λ (m : ℕ). refusal (or_else m 5)) (er none))
         ∙ sym (no_byte w phys permissions p carried 255 (counted expander count) none request response set (sym eb ∙ not-true b f))
         ∙ clamped given_out smp_far p phy ep)
 

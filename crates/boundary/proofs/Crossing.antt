@@ -6,6 +6,12 @@ use mathlib.Core.List.{List, [], ◌∷◌, ◌++◌}
 use Prim.Native.Nat.{ℕ, zero, suc, min, ◌≤◌, ◌<◌}
 use native.Mathlib.Decide.{ℕ_discrete, dec_lt}
 use native.Mathlib.Omega.{arith}
+use Rattle.std.proofs.Common.{Result, Ok, Err}
+use Rattle.std.specs.Bool.{⊤}
+use Rattle.std.specs.Result.{result_and}
+use Rattle.tables.specs.declared.refusal.Refusal.{Refusal}
+use Rattle.tables.specs.Numbers.{number, refused, answered}
+use Rattle.tables.proofs.AnswerLaws.{number_above}
 use Rattle.tables.specs.Refusals.{Test, holds, Check, refuse, first_refusal, Clear}
 use Rattle.tables.specs.Outcome.{Answer, refusal, Out, out, outcome}
 use Rattle.tables.proofs.RefusalLaws.{Holds, Numbered, first, here, clear, front, back}
@@ -16,7 +22,7 @@ use Rattle.boundary.specs.C.{given, fields, in_c, or_else}
 pub crosses : (k : ℕ) (fs : List ℕ) (a : Answer) (bs : List (List ℕ)) (o : Out) → fs ≡ fields k a → out a bs ≡ o → given fs bs ≡ in_c k o
 crosses k fs a bs o e q = ap (λ (x : List ℕ). given x bs) e ∙ ap (in_c k) q
 
--- ---- `or_else`, by its two ways out
+-- ---- `or_else`, by the two cases
 pub else_same : (n own : ℕ) → (n ≡ 0 → ⊥) → n ≡ or_else n own
 unfolding or_else
 else_same zero own h = absurd (h refl)
@@ -26,6 +32,13 @@ pub else_own : (n own : ℕ) → n ≡ 0 → own ≡ or_else n own
 unfolding or_else
 else_own zero own e = refl
 else_own (suc n) own e = absurd (omega arith)
+
+-- a check r, and where it passes the boundary's own refusal: what a call answers
+pub turned_down : {A : Type 0} (f : A → List ℕ) (r : Result ⊤ Refusal) (own : Refusal) (j : Result A Refusal) → j ≡ result_and r (Err own)
+    → answered f j ≡ refusal (or_else (refused r) (number own))
+unfolding or_else
+turned_down f (Ok x) own j e = rw e
+turned_down f (Err x) own j e = rw e (ap refusal (else_same (number x) (number own) (number_above x)))
 
 else_some : (n m : ℕ) → or_else n (suc m) ≡ 0 → ⊥
 unfolding or_else

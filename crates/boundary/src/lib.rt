@@ -6,6 +6,7 @@ ghost use Rattle.std.specs.Prelude.{◌≡◌, [], ◌∷◌, min};
 ghost use Rattle.permit.specs.Permission.{Width};
 ghost use Rattle.tables.specs.Refusals.{first_refusal};
 ghost use Rattle.tables.specs.Outcome.{refusal};
+ghost use Rattle.tables.specs.Numbers.{number};
 ghost use Rattle.links.specs.Links.{linked_as, start_up_out, leaving_out, identify_front};
 ghost use Rattle.election.specs.Election.{elected_as, elect_out};
 ghost use Rattle.opens.specs.Open.{opened_as, open_out};
@@ -13,18 +14,17 @@ ghost use Rattle.broadcasts.specs.Broadcasts.{told_as, primitive_out, broadcast_
 ghost use Rattle.smp.specs.Smp.{answered_as};
 ghost use Rattle.boundary.specs.C.{given, fields, in_c, or_else, elected_fields, opened_fields, told_fields, answered_fields, bytes_fit, identify_out_c, all_fit, counted, smp_out_c};
 
-use broadcasts::Told;
 use discover::Changes;
-use election::Elected;
-use links::Linked;
+use election::Supervisor;
 use opens::Opened;
 use smp::Answered;
+use tables::refusal::Refusal;
 use tables::{NO_BUFFERS, NO_OTHER_TABLES, NOT_READY};
 use wire::PhyNumber;
 
 // The answers' fields stand in the headers' order: C reads them by place.
 #[repr(C)]
-#[derive(Clone, Copy)]
+#[derive(Clone, Copy, Debug, PartialEq, Eq)]
 pub struct ElectedC {
     pub refusal: u32,
     pub priority: u32,
@@ -32,7 +32,7 @@ pub struct ElectedC {
 }
 
 #[repr(C)]
-#[derive(Clone, Copy)]
+#[derive(Clone, Copy, Debug, PartialEq, Eq)]
 pub struct OpenedC {
     pub refusal: u32,
     pub outcome: u32,
@@ -40,14 +40,14 @@ pub struct OpenedC {
 }
 
 #[repr(C)]
-#[derive(Clone, Copy)]
+#[derive(Clone, Copy, Debug, PartialEq, Eq)]
 pub struct ToldC {
     pub refusal: u32,
     pub count: u32,
 }
 
 #[repr(C)]
-#[derive(Clone, Copy)]
+#[derive(Clone, Copy, Debug, PartialEq, Eq)]
 pub struct AnsweredC {
     pub refusal: u32,
     pub result: u32,
@@ -59,10 +59,7 @@ pub struct AnsweredC {
 pub fn byte_of(n: u32) -> u8
     ensures { result ≡ min n 255 }
 {
-    if 255 < n {
-        return 255;
-    }
-    n as u8
+    n.min(255) as u8
 }
 
 pub fn phy_of(n: u32) -> PhyNumber
@@ -71,105 +68,102 @@ pub fn phy_of(n: u32) -> PhyNumber
     PhyNumber(byte_of(n))
 }
 
-// The refusal `no`, or where it is 0 the boundary's own.
-pub fn or_else(no: u8, own: u8) -> u8
-    ensures { result ≡ or_else no own }
+// A refusal's number, as the answers have it.
+fn refusal_c(refusal: Refusal) -> u32
+    ensures { result ≡ number refusal }
 {
-    if no != 0 {
-        return no;
-    }
-    own
+    u8::from(refusal) as u32
 }
 
-pub fn linked_c(linked: Linked) -> u32
+pub fn linked_c(linked: Result<(), Refusal>) -> u32
     ensures { result ∷ [] ≡ fields 0 (linked_as linked) }
 {
     match linked {
-        Linked::Refused(n) => n as u32,
-        Linked::Done => 0,
+        Ok(()) => 0,
+        Err(refusal) => refusal_c(refusal),
     }
 }
 
-fn elected_c(elected: Elected) -> ElectedC
+fn elected_c(elected: Result<Supervisor, Refusal>) -> ElectedC
     ensures { elected_fields result ≡ fields 2 (elected_as elected) }
 {
     match elected {
-        Elected::Refused(n) => ElectedC {
-            refusal: n as u32,
+        Ok(elected) => ElectedC {
+            refusal: 0,
+            priority: elected.priority as u32,
+            address: elected.address,
+        },
+        Err(refusal) => ElectedC {
+            refusal: refusal_c(refusal),
             priority: 0,
             address: 0,
-        },
-        Elected::Supervisor(priority, address) => ElectedC {
-            refusal: 0,
-            priority: priority as u32,
-            address,
         },
     }
 }
 
 // The outcomes have document 01's numbers.
-pub fn opened_c(opened: Opened) -> OpenedC
+pub fn opened_c(opened: Result<Opened, Refusal>) -> OpenedC
     ensures { opened_fields result ≡ fields 2 (opened_as opened) }
 {
     match opened {
-        Opened::Refused(n) => OpenedC {
-            refusal: n as u32,
-            outcome: 0,
-            phy: 0,
-        },
-        Opened::NoDestination => OpenedC {
+        Ok(Opened::NoDestination) => OpenedC {
             refusal: 0,
             outcome: 1,
             phy: 0,
         },
-        Opened::BadDestination => OpenedC {
+        Ok(Opened::BadDestination) => OpenedC {
             refusal: 0,
             outcome: 2,
             phy: 0,
         },
-        Opened::ZoneViolation => OpenedC {
+        Ok(Opened::ZoneViolation) => OpenedC {
             refusal: 0,
             outcome: 3,
             phy: 0,
         },
-        Opened::Forward(p) => OpenedC {
+        Ok(Opened::Forward(p)) => OpenedC {
             refusal: 0,
             outcome: 4,
             phy: p.0 as u32,
         },
+        Err(refusal) => OpenedC {
+            refusal: refusal_c(refusal),
+            outcome: 0,
+            phy: 0,
+        },
     }
 }
 
-pub fn told_c(told: Told) -> ToldC
+pub fn told_c(told: Result<u8, Refusal>) -> ToldC
     ensures { told_fields result ≡ fields 1 (told_as told) }
 {
     match told {
-        Told::Refused(n) => ToldC {
-            refusal: n as u32,
-            count: 0,
-        },
-        Told::Count(n) => ToldC {
+        Ok(count) => ToldC {
             refusal: 0,
-            count: n as u32,
+            count: count as u32,
+        },
+        Err(refusal) => ToldC {
+            refusal: refusal_c(refusal),
+            count: 0,
         },
     }
 }
 
-fn answered_c(answered: Answered) -> AnsweredC
+fn answered_c(answered: Result<Answered, Refusal>) -> AnsweredC
     ensures { answered_fields result ≡ fields 3 (answered_as answered) }
 {
     match answered {
-        Answered::Refused(n) => AnsweredC {
-            refusal: n as u32,
+        Ok(answered) => AnsweredC {
+            refusal: 0,
+            result: u8::from(answered.result) as u32,
+            length: answered.length as u32,
+            count: answered.told as u32,
+        },
+        Err(refusal) => AnsweredC {
+            refusal: refusal_c(refusal),
             result: 0,
             length: 0,
             count: 0,
-        },
-        Answered::Replied(result, written, told) => AnsweredC {
-            refusal: 0,
-            result: result as u32,
-            length: written as u32,
-            count: told as u32,
         },
     }
 }
@@ -188,11 +182,11 @@ pub fn leaving_c(phys: &mut [u8], phy: u32) -> u32
 }
 
 // What the boundary itself refuses of IDENTIFY, as `own`: but only after what the header puts before it.
-fn identify_refused(phys: &[u8], phy: PhyNumber, own: u8) -> u32
-    ensures { result ∷ [] ≡ fields 0 (refusal (or_else (first_refusal (identify_front phys.now phy.0)) own)) }
+fn identify_refused(phys: &[u8], phy: PhyNumber, own: Refusal) -> u32
+    ensures { result ∷ [] ≡ fields 0 (refusal (or_else (first_refusal (identify_front phys.now phy.0)) (number own))) }
 {
-    let no = tables::arrival_refusal(phys, phy, NO_OTHER_TABLES, NO_BUFFERS, NOT_READY);
-    linked_c(Linked::Refused(or_else(no, own)))
+    let front = tables::check_arrival(phys, phy, NO_OTHER_TABLES, NO_BUFFERS, NOT_READY);
+    linked_c(front.and(Err(own)))
 }
 
 fn bytes_fit(device: u32, attached: u32) -> bool
@@ -207,10 +201,10 @@ pub fn identify_c(phys: &mut [u8], phy: u32, address: &[u8], device: u32, attach
 {
     let p = phy_of(phy);
     if address.len() != 8 {
-        return identify_refused(phys, p, 4);
+        return identify_refused(phys, p, Refusal::WrongLength);
     }
     if !bytes_fit(device, attached) {
-        return identify_refused(phys, p, 5);
+        return identify_refused(phys, p, Refusal::WrongField);
     }
     let whole = wire::eight(address);
     linked_c(links::identify(phys, p, &whole, byte_of(device), byte_of(attached)))
@@ -309,8 +303,8 @@ pub fn smp_c(
     let p = phy_of(phy);
     if !all_fit(carried, expander, count) {
         let room = (1020 <= response.len()) & (16 <= set.len());
-        let no = smp::smp_refusal(width, phys, permissions, p, 255, request, room);
-        return answered_c(Answered::Refused(or_else(no, 5)));
+        let front = smp::check_smp(width, phys, permissions, p, 255, request, room);
+        return answered_c(front.and(Err(Refusal::WrongField)));
     }
     let changes = Changes {
         expander: expander as u16,

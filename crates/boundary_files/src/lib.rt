@@ -10,7 +10,8 @@ ghost use Rattle.version_2.specs.Version2.{save_whole_out, load_whole_out};
 ghost use Rattle.boundary.specs.C.{given, fields, in_c};
 ghost use Rattle.boundary_files.specs.FilesC.{saved_fields, loaded_fields};
 
-use file_trailer::{Loaded, Saved};
+use file_trailer::Version;
+use tables::refusal::Refusal;
 
 // The answers' fields stand in the headers' order: C reads them by place.
 #[repr(C)]
@@ -27,32 +28,32 @@ pub struct LoadedC {
     pub version: u32,
 }
 
-fn saved_c(saved: Saved) -> SavedC
+fn saved_c(saved: Result<u32, Refusal>) -> SavedC
     ensures { saved_fields result ≡ fields 1 (saved_as saved) }
 {
     match saved {
-        Saved::Refused(n) => SavedC {
-            refusal: n as u32,
-            length: 0,
-        },
-        Saved::Written(bytes) => SavedC {
+        Ok(bytes) => SavedC {
             refusal: 0,
             length: bytes,
+        },
+        Err(refusal) => SavedC {
+            refusal: u8::from(refusal) as u32,
+            length: 0,
         },
     }
 }
 
-fn loaded_c(loaded: Loaded) -> LoadedC
+fn loaded_c(loaded: Result<Version, Refusal>) -> LoadedC
     ensures { loaded_fields result ≡ fields 1 (loaded_as loaded) }
 {
     match loaded {
-        Loaded::Refused(n) => LoadedC {
-            refusal: n as u32,
-            version: 0,
-        },
-        Loaded::Version(version) => LoadedC {
+        Ok(version) => LoadedC {
             refusal: 0,
-            version: version as u32,
+            version: u16::from(version) as u32,
+        },
+        Err(refusal) => LoadedC {
+            refusal: u8::from(refusal) as u32,
+            version: 0,
         },
     }
 }

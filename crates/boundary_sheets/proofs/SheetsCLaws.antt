@@ -7,18 +7,25 @@ use Prim.Native.Nat.{ℕ, min, ◌≤◌, ◌<◌}
 use native.Mathlib.Omega.{arith}
 use lib.Dec.{leb}
 use lib.ListN.{length}
+use Rattle.std.proofs.Common.{Result, Err}
+use Rattle.std.specs.Bool.{⊤}
+use Rattle.std.specs.Result.{result_and}
 use Rattle.wire.specs.Groups.{is_group}
 use Rattle.permit.specs.Permission.{permissions_sized}
 use Rattle.permit.specs.Orders.{apply}
 use Rattle.tables.specs.Refusals.{Check, refuse, below, off, first_refusal}
+use Rattle.tables.specs.Numbers.{refused}
+use Rattle.tables.specs.declared.refusal.Refusal.{Refusal}
+use Rattle.tables.specs.declared.refusal.Refusal.TheVariants.{WrongField}
 use Rattle.tables.specs.Outcome.{Answer, refusal, out, outcome}
 use Rattle.tables.specs.Arrival.{arrival_checks}
 use Rattle.tables.proofs.RefusalLaws.{skipped}
 use Rattle.requests.specs.Requests.{smp_source}
 use Rattle.sheet_lines.specs.Line.{sheet_most}
-use Rattle.imports.specs.Import.{import_checks, imports, done_values, done_orders, import_out}
+use Rattle.imports.specs.Import.{import_checks, imports, imported_values, imported_as, done_values, done_orders, import_out}
+use Rattle.imports.specs.declared.Imported.{Imported}
 use Rattle.boundary.specs.C.{given, fields, in_c, or_else}
-use Rattle.boundary.proofs.Crossing.{crosses, stopped, as_follows, behind, clamped}
+use Rattle.boundary.proofs.Crossing.{crosses, turned_down, stopped, as_follows, behind, clamped}
 use Rattle.boundary.proofs.CLaws.{arrival_far}
 use Rattle.boundary_sheets.specs.SheetsC.{import_out_c}
 use Rattle.boundary_sheets.specs.Promises.{AsDocument02, NoCarriedByte}
@@ -50,12 +57,13 @@ module _ (w : ℕ) (phys permissions : List ℕ) (carried : ℕ) (sheet : List �
       far x hx _ _ _ _ ∙ sym (far y hy _ _ _ _)
 
   module _ (phy p : ℕ) (ep : p ≡ min phy 255) where
-    -- a carried number that is no byte
-    pub import_wide : (r n : ℕ) (fs : List ℕ) → 255 < carried → r ≡ first_refusal (import_checks w phys permissions p 255 (length sheet)) → n ≡ or_else r 5
-        → fs ≡ fields 2 (refusal n) → given fs (permissions ∷ []) ≡ in_c 2 (import_out_c w phys permissions phy carried sheet)
-    import_wide r n fs h er en e =
-        crosses 2 fs (refusal n) (permissions ∷ []) _ e
-        (ap (λ (m : ℕ). out (refusal m) (permissions ∷ [])) (en ∙ ap (λ (m : ℕ). or_else m 5) er)
+    -- a carried number that is no byte: r is what the checks answer, and a the refusal behind them
+    pub import_wide : (r : Result ⊤ Refusal) (a : Result Imported Refusal) (fs : List ℕ) → 255 < carried
+        → refused r ≡ first_refusal (import_checks w phys permissions p 255 (length sheet)) → a ≡ result_and r (Err WrongField)
+        → fs ≡ fields 2 (imported_as a) → given fs (permissions ∷ []) ≡ in_c 2 (import_out_c w phys permissions phy carried sheet)
+    import_wide r a fs h er ea e =
+        crosses 2 fs (imported_as a) (permissions ∷ []) _ e
+        (ap (λ (q : Answer). out q (permissions ∷ [])) (turned_down imported_values r WrongField a ea ∙ ap (λ (m : ℕ). refusal (or_else m 5)) er)
         ∙ sym (no_carried_byte w phys permissions p carried 255 sheet h)
         ∙ clamped (λ (x : ℕ). import_out_c w phys permissions x carried sheet) import_far p phy ep)
 

@@ -8,8 +8,8 @@ ghost use Rattle.exports.specs.Export.{exported_as, export_out};
 ghost use Rattle.boundary.specs.C.{given, fields, in_c};
 ghost use Rattle.boundary_sheets.specs.SheetsC.{imported_fields, exported_fields, import_out_c};
 
-use exports::Exported;
 use imports::Imported;
+use tables::refusal::Refusal;
 
 // The answers' fields stand in the headers' order: C reads them by place.
 #[repr(C)]
@@ -27,39 +27,39 @@ pub struct ExportedC {
     pub length: u32,
 }
 
-fn imported_c(imported: Imported) -> ImportedC
+fn imported_c(imported: Result<Imported, Refusal>) -> ImportedC
     ensures { imported_fields result ≡ fields 2 (imported_as imported) }
 {
     match imported {
-        Imported::Refused(n) => ImportedC {
-            refusal: n as u32,
-            lines: 0,
-            cause: 0,
-        },
-        Imported::Stopped(number, cause) => ImportedC {
+        Ok(Imported::Stopped(number, cause)) => ImportedC {
             refusal: 0,
             lines: number,
-            cause: cause as u32,
+            cause: u8::from(cause) as u32,
         },
-        Imported::Whole(lines) => ImportedC {
+        Ok(Imported::Whole(lines)) => ImportedC {
             refusal: 0,
             lines,
+            cause: 0,
+        },
+        Err(refusal) => ImportedC {
+            refusal: u8::from(refusal) as u32,
+            lines: 0,
             cause: 0,
         },
     }
 }
 
-fn exported_c(exported: Exported) -> ExportedC
+fn exported_c(exported: Result<u32, Refusal>) -> ExportedC
     ensures { exported_fields result ≡ fields 1 (exported_as exported) }
 {
     match exported {
-        Exported::Refused(n) => ExportedC {
-            refusal: n as u32,
-            length: 0,
-        },
-        Exported::Written(bytes) => ExportedC {
+        Ok(bytes) => ExportedC {
             refusal: 0,
             length: bytes,
+        },
+        Err(refusal) => ExportedC {
+            refusal: u8::from(refusal) as u32,
+            length: 0,
         },
     }
 }
@@ -79,8 +79,8 @@ pub fn import_c(
 {
     let p = boundary::phy_of(phy);
     if 255 < carried {
-        let no = imports::import_refusal(width, phys, permissions, p, 255, sheet.len());
-        return imported_c(Imported::Refused(boundary::or_else(no, 5)));
+        let checked = imports::check_import(width, phys, permissions, p, 255, sheet.len());
+        return imported_c(checked.and(Err(Refusal::WrongField)));
     }
     imported_c(imports::import_sheet_at(
         width,

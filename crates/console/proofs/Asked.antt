@@ -69,14 +69,14 @@ unfolding right
 right-group w phys permissions phy carried r = go (smp_source phys phy carried) r
   where
     go : (o : Option ZoneGroup) → source_reaches w permissions o 2 ≡ true → is_group o ≡ true
-    go (Group a) e = refl
+    go (Some a) e = refl
     go None e = absurd (true≢false (sym e))
 
 pub taken : (ask : Ask) (w : ℕ) (phys permissions : List ℕ) (phy carried : ℕ) (changes : Changes) (room : Bool) → Rightful w phys permissions phy carried room
     → first_refusal (smp_checks w phys permissions phy carried changes (request_of ask) room) ≡ 0
 taken ask w phys permissions phy carried changes room r =
     let g : not (is_group (smp_source phys phy carried)) ≡ false = rw (right-group w phys permissions phy carried r.may) in
-    sym (arrival_back phys phy (permissions_sized w permissions) room true (permissions_sized w permissions) 0 refl (sym r.arrives) _ 0 refl
+    sym (arrival_back phys phy (permissions_sized w permissions) room true (permissions_sized w permissions) refl _ 0 (sym r.arrives)
     (first (next (four_long ask) (next (begins_40 ask) (next g (next (field_most w phys permissions phy carried changes (request_of ask)) none))))))
 
 -- ---- what it says

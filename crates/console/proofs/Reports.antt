@@ -50,7 +50,7 @@ module _ (w : ℕ) (phys permissions : List ℕ) (phy carried : ℕ) (request : 
   said =
       let l = length-rows w permissions request in
       let d : length (rows w permissions request) / 4 ≡ 2 + 4 * row_count request = omega arith in
-      rw (← accepts 0 _ (sym z) _ phys permissions refl, d)
+      rw (← accepts _ _ phys permissions (sym z), d)
 
   body_4 : get_or Body 4 0 ≡ 0
   unfolding rows
@@ -73,13 +73,14 @@ module _ (w : ℕ) (phys permissions : List ℕ) (phy carried : ℕ) (request : 
   body_reports = refl
 
   body_read : 0 ≡ first_refusal (head_checks Body)
+  unfolding among
   body_read =
-      let s = report-start w phys permissions phy carried request _ refl z in
+      let s = report-start w phys permissions phy carried request (sym z) in
       let l = length-rows w permissions request in
       let m = rows_most request in
       let t = rows_there request s in
       let long : length Body ≡ 12 + 16 * row_count request = omega arith in
-      let p : true ≡ possible 0x51 0 = laws.possible_51 0x51 0 true refl (laws.among-here 0 0 _ refl) in
+      let p : true ≡ possible 0x51 0 = laws.possible_51 0x51 0 true refl refl in
       laws.then_length Body true 0 (omega arith) refl p refl
       (laws.length-rows Body true 0 (sym body_reports) refl
       (first (next (omega (arith, long)) (next body_4 (next body_5 (next (omega (arith, body_start)) (next (omega (arith, body_count)) (next (omega (arith, body_start, body_count)) (next (omega (arith, body_count)) (next (omega (arith, long, body_count)) none))))))))))
@@ -188,7 +189,7 @@ module _ (w : ℕ) (phys permissions : List ℕ) (phy carried : ℕ) (request : 
       → response_of 0x51 (report_reply w phys permissions phy carried request)
       ≡ 0x41 ∷ 0x51 ∷ first_refusal (report_checks w phys permissions phy carried request) ∷ 0 ∷ []
   unfolding report_reply
-  down_51 h = rw (← turns_down (first_refusal (report_checks w phys permissions phy carried request)) _ refl _ phys permissions h)
+  down_51 h = rw (← turns_down _ _ phys permissions (first_refusal (report_checks w phys permissions phy carried request)) refl h)
 
   -- every response to 51h
   heard_51 : 0 ≡ first_refusal (head_checks (response_of 0x51 (report_reply w phys permissions phy carried request)))

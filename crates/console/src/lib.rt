@@ -3,8 +3,8 @@
 // changes no lent byte, or what was built or read. What the console and the library agree on is in specs/Promises.antt.
 #![tactic(auto)]
 
-// A request's length, or a refusal.
-pub use console_orders::Built;
+// Why no request is built, or no response read.
+pub use console_orders::Refusal;
 
 // 93h: the zones of a run of phys.
 pub use console_zones::phy_zones;

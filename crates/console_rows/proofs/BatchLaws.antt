@@ -1,11 +1,9 @@
 -- A batch: whether it starts below 2, how long it is, and what was written.
 -- Assumes nothing.
 use mathlib.Core.Path.{◌≡◌, refl, sym, ◌∙◌}
-use mathlib.Core.Bool.{Bool, false, ◌&&◌}
+use mathlib.Core.Bool.{Bool}
 use mathlib.Core.List.{List, ◌++◌}
-use Prim.Native.Nat.{ℕ, ◌+◌, ◌*◌, ◌≤◌, ◌<◌}
-use borrow.Author.Tests.{lt-ltb, le-ltb}
-use lib.Dec.{ltb}
+use Prim.Native.Nat.{ℕ, ◌+◌, ◌*◌}
 use lib.ListN.{length, drop, length-append}
 use lib.Seq.{paste}
 use Rattle.wire.specs.Bits.{num, tab}
@@ -15,12 +13,6 @@ use Rattle.console_orders.proofs.BuildLaws.{behind}
 use Rattle.console_rows.specs.Batches.{choice_rows, packed, batch_request}
 
 -- ---- whether a batch names group 0 or 1
-pub low_none : (start k : ℕ) → 2 ≤ start → false ≡ (ltb start 2 && ltb 0 k)
-low_none start k h = rw (le-ltb start 2 h)
-
-pub low_some : (start k : ℕ) → start < 2 → ltb 0 k ≡ (ltb start 2 && ltb 0 k)
-low_some start k h = rw (lt-ltb start 2 h)
-
 -- ---- its bytes
 module _ (start : ℕ) (choices room : List ℕ) (complete : Bool) where
   pub batch-length : 12 + 16 * choice_rows choices ≡ length (batch_request start choices complete)

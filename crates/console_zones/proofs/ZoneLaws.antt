@@ -7,9 +7,9 @@ use Prim.Native.Nat.{ℕ, ◌+◌, ◌*◌, ◌/◌, ◌%◌, ◌≤◌, ◌<◌
 use native.Mathlib.Omega.{arith}
 use mir.Syntax.{w8}
 use mir.Val.{Fits}
-use borrow.Author.Tests.{lt-ltb, le-ltb, ltb-true, le-leb, lt-leb, eq-eqb, ne_eqb, not-false}
-use lib.Dec.{eqb, ltb}
-use lib.ListN.{length, get_or, drop, length-append, get_or-eq_default}
+use borrow.Author.Tests.{ltb-true, eq-eqb, ne_eqb, not-false}
+use lib.Dec.{eqb}
+use lib.ListN.{length, drop, length-append, get_or-eq_default}
 use lib.Seq.{paste}
 use Rattle.wire.specs.Bits.{num, tab}
 use Rattle.wire.specs.Runs.{every}
@@ -18,41 +18,15 @@ use Rattle.wire.proofs.RunLaws.{every_at}
 use Rattle.tables.proofs.ArrivalLaws.{both}
 use Rattle.console_orders.specs.Building.{eight}
 use Rattle.console_orders.proofs.BuildLaws.{behind}
-use Rattle.console_zones.specs.Zones.{entry_count, takes_part, priority_at, group_at, small, fair, barred, entry_byte, described, phy_zones_request}
+use Rattle.console_zones.specs.Zones.{entry_count, takes_part, priority_at, group_at, small, entry_byte, described, phy_zones_request}
 
 -- ---- entries
-module _ (entries : List ℕ) (i : ℕ) where
-  pub small_high : 15 < priority_at entries i → false ≡ small entries i
-  unfolding small
-  small_high h = rw (le-ltb (priority_at entries i) 16 h)
-
-  pub small-group : priority_at entries i ≤ 15 → ltb (group_at entries i) 128 ≡ small entries i
-  unfolding small
-  small-group h = let l : priority_at entries i < 16 = omega arith in rw (lt-ltb (priority_at entries i) 16 l)
-
-  pub fair_out : get_or entries (3 * i) 0 ≡ 0 → true ≡ fair entries i
-  unfolding fair
-  fair_out h = rw (eq-eqb (get_or entries (3 * i) 0) 0 h)
-
-  pub fair_in : (get_or entries (3 * i) 0 ≡ 0 → ⊥) → eqb (group_at entries i) 1 ≡ fair entries i
-  unfolding fair
-  fair_in h = rw (ne_eqb (get_or entries (3 * i) 0) 0 h)
-
 pub small_at : (entries : List ℕ) (i : ℕ) → not (every (small entries) 0 (entry_count entries)) ≡ false → i < entry_count entries
     → (priority_at entries i < 16) × (group_at entries i < 128)
 unfolding small
 small_at entries i e h =
     let p = both _ _ (every_at (small entries) 0 (entry_count entries) i (omega arith) (omega arith) (not-false _ e)) in
     (ltb-true (priority_at entries i) 16 p.0, ltb-true (group_at entries i) 128 p.1)
-
-module _ (start : ℕ) (entries : List ℕ) where
-  pub barred_out : 128 < start + entry_count entries → false ≡ barred start entries
-  unfolding barred
-  barred_out h = rw (lt-leb (start + entry_count entries) 128 h)
-
-  pub barred_in : (v : Bool) → start + entry_count entries ≤ 128 → v ≡ every (fair entries) 0 (entry_count entries) → not v ≡ barred start entries
-  unfolding barred
-  barred_in v h e = rw (le-leb (start + entry_count entries) 128 h, e)
 
 -- byte i of the descriptors, by each way out of the function that answers it
 module _ (entries : List ℕ) (i : ℕ) (w : length entries % 3 ≡ 0) where

@@ -7,8 +7,8 @@ use Prim.Native.Nat.{ℕ, zero, suc, ◌+◌, ◌*◌, ◌/◌, ◌%◌, ◌≤�
 use native.Mathlib.Omega.{arith}
 use mir.Val.{bool_byte}
 use borrow.Author.Tests.{eq-eqb, ne_eqb}
-use lib.ListN.{length, get_or, set, take, drop, replicate, length-set}
-use lib.Seq.{paste, drop-cons}
+use lib.ListN.{length, get_or, set, take, drop, replicate}
+use lib.Seq.{drop-cons}
 use Rattle.wire.specs.Bits.{num, tab}
 use Rattle.wire.proofs.BitLaws.{byte_num}
 use Rattle.wire.proofs.Loops.{length-tab}
@@ -36,18 +36,6 @@ module _ (w : ℕ) (phys permissions : List ℕ) (phy carried : ℕ) (request : 
       → v ≡ source_reaches w permissions (smp_source phys phy carried) g → v ≡ shown w phys permissions phy carried request
   unfolding reaches_phy
   shown_reached v g h eg e = e ∙ ap (source_reaches w permissions (smp_source phys phy carried)) eg ∙ sym (shown_heeding h)
-
--- ---- `show_attached`: whether the phy is ready, as a callee answered it
-module _ (b v : Bool) (e : b ≡ v) where
-  pub attached_shown : (phys : List ℕ) (i : ℕ) (response s : List ℕ) (d a : ℕ) → b ≡ true → d ≡ device_type phys i → a ≡ attached_phy phys i
-      → s ≡ paste (set (set response 12 (d * 16)) 32 a) 24 (drop (phy_record * i + 4) phys) 8 → s ≡ cond v (attached_in phys i response) response
-  attached_shown phys i response s d a t ed ea p = rw (← e, t, ← ed, ← ea) p
-
-  pub not_shown : (new old : List ℕ) → b ≡ false → old ≡ cond v new old
-  not_shown new old t = rw (← e, t)
-
-pub same-shown : (s₀ s : List ℕ) (x y : ℕ) → length s ≡ length (set (set s₀ 12 x) 32 y) → length s ≡ length s₀
-same-shown s₀ s x y e = e ∙ length-set (set s₀ 12 x) 32 y ∙ length-set s₀ 12 x
 
 -- ---- the response's bytes
 -- n bytes of s from place b + k on

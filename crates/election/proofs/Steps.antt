@@ -4,11 +4,10 @@ use mathlib.Core.Path.{◌≡◌, refl, sym, ap, ap₂, ◌∙◌}
 use mathlib.Core.Bool.{Bool, true, false, not, ◌&&◌}
 use mathlib.Core.List.{List, [], ◌∷◌, ◌++◌}
 use Prim.Native.Nat.{ℕ, suc, ◌+◌, ◌-◌, ◌*◌, ◌≤◌, ◌<◌}
-use native.Mathlib.Nat.{sub-zero}
 use native.Mathlib.Numerals.{add-one}
 use native.Mathlib.Omega.{arith}
 use borrow.Author.Tests.{lt-ltb, le-ltb, eq-eqb, ne_eqb, not-true, not-false}
-use Rattle.std.proofs.Common.{Ordering, Option, Some, None}
+use Rattle.std.proofs.Common.{Ordering, Option, None}
 use Rattle.std.proofs.lemmas.Bool.Decides.{nat_tests}
 use Rattle.std.specs.Ordering.{nat_cmp, ordering_then, ord_max}
 use Rattle.wire.specs.declared.ZoneGroup.{ZoneGroup}
@@ -68,20 +67,10 @@ pub not_ready_lem : (b : Candidate) (k v w : Bool) (p a : ℕ) → k ≡ v → n
 unfolding best
 not_ready_lem b k v w p a e h = let f : k ≡ false = not-true k h in rw (← e, f)
 
-pub phy_considered : (b r : Candidate) (k v : Bool) (q x p a : ℕ) → k ≡ v → not k ≡ false → q ≡ p → x ≡ a
-    → r ≡ best b (candidate (fit q x) q x)
-    → r ≡ best b (candidate (v && fit p a) p a)
-phy_considered b r k v q x p a e h i j g = let t : k ≡ true = not-false k h in rw (← e, t, ← i, ← j) g
-
 -- ---- `with_route`, where o is what its group byte names
 pub no_group : (b : Candidate) (o m : Option ZoneGroup) (w : Bool) (p a : ℕ) → o ≡ m → o ≡ None → b ≡ best b (candidate (is_group m && w) p a)
 unfolding best
 no_group b o m w p a e n = rw (← e, n)
-
-pub route_considered : (b r : Candidate) (o m : Option ZoneGroup) (g : ZoneGroup) (q x p a : ℕ) → o ≡ m → o ≡ Some g → q ≡ p → x ≡ a
-    → r ≡ best b (candidate (fit q x) q x)
-    → r ≡ best b (candidate (is_group m && fit p a) p a)
-route_considered b r o m g q x p a e s i j k = rw (← e, s, ← i, ← j) k
 
 -- ---- the best of two lists is carried from the first into the second
 pub best-append : (b : Candidate) (cs ds : List Candidate) → best b (cs ++ ds) ≡ best (best b cs) ds
@@ -96,9 +85,6 @@ carried cs ds p r e g = g ∙ ap (λ (b : Candidate). best b ds) e ∙ sym (best
 pub record Carried (cs : ℕ → ℕ → List Candidate) (n : ℕ) (b₀ b : Candidate) (i : ℕ) : Type 0 where
   pub within : i ≤ n
   pub whole : best b₀ (cs 0 n) ≡ best b (cs i (n - i))
-
-pub carry_start : (cs : ℕ → ℕ → List Candidate) (n : ℕ) (b : Candidate) → Carried cs n b b 0
-carry_start cs n b = record { within = omega arith; whole = simp sub-zero }
 
 carry_again : (cs : ℕ → ℕ → List Candidate) (one : ℕ → List Candidate) (n : ℕ) (b₀ b c : Candidate) (i : ℕ)
     → ((k m : ℕ) → cs k (suc m) ≡ one k ++ cs (suc k) m)

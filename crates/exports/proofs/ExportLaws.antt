@@ -11,10 +11,11 @@ use native.Mathlib.Omega.{arith}
 use borrow.Author.Tests.{not-false}
 use lib.ListN.{length, take, drop, set, length-take, length-append}
 use lib.Seq.{sets, sets-eq, set-set, set_comm, take-take, take-append_seam, append_snoc}
+use Rattle.std.proofs.Common.{Ok}
 use Rattle.permit.specs.Permission.{groups, permissions_sized, P, reaches, Width, Table}
 use Rattle.permit.proofs.Laws.{table_sized}
 use Rattle.permit.proofs.ReachLaws.{reach_held}
-use Rattle.tables.specs.Outcome.{answer, out, outcome}
+use Rattle.tables.specs.Outcome.{answer, out}
 use Rattle.tables.specs.Refusals.{first_refusal}
 use Rattle.tables.proofs.RefusalLaws.{clear}
 use Rattle.tables.proofs.OutcomeLaws.{gives}
@@ -24,8 +25,7 @@ use Rattle.lines.proofs.Putting.{wrote_nothing, Putting, putting_room, putting_e
 use Rattle.sheet_lines.specs.Line.{CR, LF, numeral, line_text}
 use Rattle.sheet_lines.proofs.NumeralLaws.{one_figure, two-figures, three-figures}
 use Rattle.exports.specs.Fields.{bytes_of, FieldOf, FieldPut}
-use Rattle.exports.specs.Export.{pair_text, row_text, sheet_text, export_checks, exported_as}
-use Rattle.exports.specs.declared.Exported.TheVariants.{Written}
+use Rattle.exports.specs.Export.{pair_text, row_text, sheet_text, export_checks, exported_as, export_out}
 
 -- ---- bytes put over others
 -- a byte before the others, put after them
@@ -254,24 +254,23 @@ sheet_length w t h l =
     omega arith
 
 -- ---- the call's end
-pub export_room : (w : ℕ) (t : List ℕ) (room r : ℕ) → Width w → r ≡ first_refusal (export_checks w t room) → r ≡ 0
+pub export_room : (w : ℕ) (t : List ℕ) (room : ℕ) → Width w → 0 ≡ first_refusal (export_checks w t room)
     → Table w t × (length (sheet_text w t) ≤ room)
-export_room w t room r h e z =
-    let k = clear (export_checks w t room) r e z tt in
+export_room w t room h e =
+    let k = clear (export_checks w t room) 0 e refl tt in
     (table_sized w t h (not-false (permissions_sized w t) k.0), omega (arith, sheet_length w t h.some h.most))
 
 pub export_short : (w : ℕ) (t s s₁ : List ℕ) (end : ℕ) → Width w → Wrote s 0 (sheet_text w t) end s₁ → end ≤ 88011
 export_short w t s s₁ end h p = let l = sheet_length w t h.some h.most in let f = p.ends in omega arith
 
-pub export_gives : (w : ℕ) (t s s₁ : List ℕ) (r end : ℕ) → Width w → r ≡ first_refusal (export_checks w t (length s)) → r ≡ 0 → Wrote s 0 (sheet_text w t) end s₁
-    → out (exported_as (Written end)) (s₁ ∷ [])
-    ≡ outcome (first_refusal (export_checks w t (length s))) (length (sheet_text w t) ∷ []) (s ∷ []) ((sheet_text w t ++ drop (length (sheet_text w t)) s) ∷ [])
+pub export_gives : (w : ℕ) (t s s₁ : List ℕ) (end : ℕ) → Width w → 0 ≡ first_refusal (export_checks w t (length s)) → Wrote s 0 (sheet_text w t) end s₁
+    → out (exported_as (Ok end)) (s₁ ∷ []) ≡ export_out w t s
 unfolding written
-export_gives w t s s₁ r end h e z p =
-    let l = (export_room w t (length s) r h e z).1 in
+export_gives w t s s₁ end h e p =
+    let l = (export_room w t (length s) h e).1 in
     let f = p.ends in
     let en : end ≡ length (sheet_text w t) = omega arith in
-    gives (exported_as (Written end)) (length (sheet_text w t) ∷ []) r (first_refusal (export_checks w t (length s))) (s₁ ∷ []) (s ∷ []) ((sheet_text w t ++ drop (length (sheet_text w t)) s) ∷ []) e z
+    gives (exported_as (Ok end)) (length (sheet_text w t) ∷ []) (first_refusal (export_checks w t (length s))) (s₁ ∷ []) (s ∷ []) ((sheet_text w t ++ drop (length (sheet_text w t)) s) ∷ []) e
     (ap (λ (m : ℕ). answer (m ∷ [])) en)
     (ap (λ (u : List ℕ). u ∷ [])
     (p.wrote ∙ sets-eq (sheet_text w t) s 0 (omega arith) ∙ ap (λ (m : ℕ). sheet_text w t ++ drop m s) (zero-add (length (sheet_text w t)))))

@@ -1,13 +1,12 @@
 -- An answer is one in document 01's numbers.
 -- Assumes nothing.
 use mathlib.Core.Path.{◌≡◌}
+use Prim.Native.Nat.{ℕ}
+use Rattle.std.proofs.Common.{Result, [], ◌∷◌}
+use Rattle.tables.specs.declared.refusal.Refusal.{Refusal}
+use Rattle.tables.proofs.AnswerLaws.{one_answered}
 use Rattle.exports.specs.Export.{exported_as}
-use Rattle.exports.specs.declared.Exported.{Exported}
-use Rattle.exports.specs.declared.Exported.TheVariants.{Refused, Written}
 
 -- two answers that say the same in document 01's numbers are the same
-pub one_answer : (r q : Exported) → exported_as r ≡ exported_as q → r ≡ q
-one_answer (Refused n) (Refused m) e = cc
-one_answer (Refused n) (Written b) e = cc
-one_answer (Written b) (Refused m) e = cc
-one_answer (Written a) (Written b) e = cc
+pub one_answer : (r q : Result ℕ Refusal) → exported_as r ≡ exported_as q → r ≡ q
+one_answer = one_answered (λ n. n ∷ []) (λ a b e. cc)

@@ -1,13 +1,13 @@
 -- Document 02, request 07: "Export writes a line a,b,1 for every a <= b from 2 to 127 with P(a,b) on, ascending, CRLF." Said over the row width w:
 -- the small shelf's groups end at 7.
-use Rattle.std.specs.Prelude.{true, cond, List, [], ◌∷◌, ◌++◌, ℕ, ◌-◌, length, drop}
+use Rattle.std.specs.Prelude.{true, cond, List, [], ◌∷◌, ◌++◌, ℕ, ◌-◌, length, drop, Result}
 use Rattle.wire.specs.Runs.{texts}
 use Rattle.permit.specs.Permission.{groups, permissions_sized, P}
 use Rattle.tables.specs.Refusals.{Check, refuse, below, off, first_refusal}
-use Rattle.tables.specs.Outcome.{Answer, refusal, answer, Out, outcome}
+use Rattle.tables.specs.Outcome.{Answer, Out, outcome}
+use Rattle.tables.specs.Numbers.{answered}
+use Rattle.tables.specs.declared.refusal.Refusal.{Refusal}
 use Rattle.sheet_lines.specs.Line.{CR, LF, sheet_most, line_text}
-use Rattle.exports.specs.declared.Exported.{Exported}
-use Rattle.exports.specs.declared.Exported.TheVariants.{Refused, Written}
 
 -- "a line a,b,1 .. with P(a,b) on .. CRLF"
 unfoldable pub pair_text : ℕ → List ℕ → ℕ → ℕ → List ℕ
@@ -29,9 +29,8 @@ export_checks w permissions room =
     ∷ []
 
 -- the answer in these numbers: how many bytes were written
-abbrev pub exported_as : Exported → Answer
-exported_as (Refused n) = refusal n
-exported_as (Written n) = answer (n ∷ [])
+abbrev pub exported_as : Result ℕ Refusal → Answer
+exported_as = answered (λ n. n ∷ [])
 
 abbrev pub export_out : ℕ → List ℕ → List ℕ → Out
 export_out w permissions sheet =

@@ -5,20 +5,15 @@ ghost use Rattle.std.specs.Prelude.{◌≡◌, true, [], ◌∷◌, ◌+◌, ◌
 ghost use Rattle.permit.specs.Permission.{groups, Width, Table};
 ghost use Rattle.tables.specs.Refusals.{first_refusal};
 ghost use Rattle.tables.specs.Outcome.{out};
+ghost use Rattle.tables.specs.Numbers.{refused};
 ghost use Rattle.lines.specs.Written.{Wrote};
 ghost use Rattle.sheet_lines.specs.Line.{comma, figure, CR, LF, line_text};
 ghost use Rattle.exports.specs.Fields.{FieldOf, FieldPut};
 ghost use Rattle.exports.specs.Export.{pair_text, row_text, sheet_text, export_checks, exported_as, export_out};
 
 use sheet_lines::{CR, LF, SHEET_MOST};
+use tables::refusal::Refusal;
 use wire::ZoneGroup;
-
-#[derive(Clone, Copy)]
-pub enum Exported {
-    Refused(u8),
-    // Bytes.
-    Written(u32),
-}
 
 // A group's number and its comma as the four bytes of one number, lowest first, and how many of them count.
 #[derive(Clone, Copy)]
@@ -117,11 +112,10 @@ fn put_row(width: usize, permissions: &[u8], a: ZoneGroup, text: &mut [u8], at: 
     requires { Table width permissions.now × (a.0 < groups width) × (at + length (row_text width permissions.now a.0) ≤ length text.old) }
     ensures { Wrote text.old at (row_text width permissions.now a.0) result text.new }
 {
+    let groups = (8 * width) as u8;
     let mut end = at;
-    let mut b = a.0;
-    while (b as usize) < 8 * width {
+    for b in a.0..groups {
         end = put_pair(width, permissions, a, ZoneGroup(b), text, end);
-        b += 1;
     }
     end
 }
@@ -130,43 +124,39 @@ fn put_sheet(width: usize, permissions: &[u8], text: &mut [u8]) -> usize
     requires { Table width permissions.now × (length (sheet_text width permissions.now) ≤ length text.old) }
     ensures { Wrote text.old 0 (sheet_text width permissions.now) result text.new }
 {
+    let groups = (8 * width) as u8;
     let mut end: usize = 0;
-    let mut a: u8 = 2;
-    while (a as usize) < 8 * width {
+    for a in 2..groups {
         end = put_row(width, permissions, ZoneGroup(a), text, end);
-        a += 1;
     }
     end
 }
 
-fn export_refusal(width: usize, permissions: &[u8], room: usize) -> u8
+fn check_export(width: usize, permissions: &[u8], room: usize) -> Result<(), Refusal>
     requires { Width width }
-    ensures { result ≡ first_refusal (export_checks width permissions.now room) }
+    ensures { refused result ≡ first_refusal (export_checks width permissions.now room) }
 {
     if !permit::permissions_sized(width, permissions) {
-        return 1;
+        return Err(Refusal::WrongSize);
     }
     if room < SHEET_MOST {
-        return 3;
+        return Err(Refusal::NoRoom);
     }
-    0
+    Ok(())
 }
 
 // The permission table as a sheet; answers how many bytes it has.
-pub fn export_sheet_at(width: usize, permissions: &[u8], sheet: &mut [u8]) -> Exported
+pub fn export_sheet_at(width: usize, permissions: &[u8], sheet: &mut [u8]) -> Result<u32, Refusal>
     requires { Width width }
     ensures { out (exported_as result) (sheet.new ∷ []) ≡ export_out width permissions.now sheet.old }
 {
-    let no = export_refusal(width, permissions, sheet.len());
-    if no != 0 {
-        return Exported::Refused(no);
-    }
+    check_export(width, permissions, sheet.len())?;
     let end = put_sheet(width, permissions, sheet);
-    Exported::Written(end as u32)
+    Ok(end as u32)
 }
 
 // Document 01's shelf.
-pub fn export_sheet(permissions: &[u8], sheet: &mut [u8]) -> Exported
+pub fn export_sheet(permissions: &[u8], sheet: &mut [u8]) -> Result<u32, Refusal>
     ensures { out (exported_as result) (sheet.new ∷ []) ≡ export_out 16 permissions.now sheet.old }
 {
     export_sheet_at(16, permissions, sheet)

@@ -5,7 +5,7 @@ use mathlib.Core.Bool.{Bool, true, false, beq, not, ◌||◌}
 use mathlib.Core.List.{List}
 use Prim.Native.Nat.{ℕ, ◌-◌, ◌≤◌, ◌<◌}
 use borrow.Author.Tests.{le-leb, lt-leb, not-true, not-false}
-use lib.Dec.{eqb, leb}
+use lib.Dec.{eqb}
 use Rattle.wire.specs.Runs.{every}
 use Rattle.wire.proofs.RunLaws.{Judged, judged_start, judged_from}
 use Rattle.permit.specs.Permission.{groups, P, reaches}

@@ -2,14 +2,13 @@
 -- Assumes nothing.
 use mathlib.Core.Path.{◌≡◌, refl, sym, ap, ◌∙◌}
 use mathlib.Core.Bool.{Bool, true, ◌&&◌, true≢false, and-true, and_assoc}
-use mathlib.Core.List.{List, [], ◌∷◌}
-use Prim.Native.Nat.{ℕ, suc, ◌+◌, ◌*◌, ◌/◌, ◌%◌, ◌≤◌, ◌<◌}
+use mathlib.Core.List.{List, [], ◌∷◌, ◌++◌}
+use Prim.Native.Nat.{ℕ, suc, ◌+◌, ◌%◌, ◌≤◌, ◌<◌}
 use native.Mathlib.Numerals.{add-one}
 use native.Mathlib.Omega.{arith}
 use borrow.Author.Tests.{lt-ltb, ltb-true, le-leb, leb-true}
 use lib.Dec.{leb, ltb}
-use lib.ListN.{length, drop, get_or, drop_of_length-le}
-use lib.Seq.{drop-cons}
+use lib.ListN.{length, get_or}
 use Rattle.permit.specs.Permission.{groups, set_both, Table, Whole}
 use Rattle.permit.specs.Orders.{apply}
 use Rattle.permit.specs.History.{Valid}
@@ -54,73 +53,81 @@ orders_valid w low (a ∷ b ∷ rs) h =
     let l = h.0 in
     (((l.0, omega arith), (omega arith, l.2)), orders_valid w (suc (code a b)) rs h.1)
 
--- ---- what is left after i records
-drop-two : (rs : List ℕ) (i : ℕ) → 2 * i + 1 < length rs → drop (2 * i) rs ≡ get_or rs (2 * i) 0 ∷ get_or rs (2 * i + 1) 0 ∷ drop (2 * (i + 1)) rs
-drop-two rs i h =
-    let e : suc (2 * i + 1) ≡ 2 * (i + 1) = omega arith in
-    drop-cons rs (2 * i) 0 (omega arith)
-    ∙ ap (λ (l : List ℕ). get_or rs (2 * i) 0 ∷ l)
-    (ap (λ (k : ℕ). drop k rs) (sym (add-one (2 * i))) ∙ drop-cons rs (2 * i + 1) 0 h
-    ∙ ap (λ (k : ℕ). get_or rs (2 * i + 1) 0 ∷ drop k rs) e)
+-- ---- a record at the front of those that are left
+pub two_front : (rest x rest' : List ℕ) → rest ≡ x ++ rest' → length x ≡ 2 → rest ≡ get_or x 0 0 ∷ get_or x 1 0 ∷ rest'
+two_front rest [] rest' e l = absurd (omega arith)
+two_front rest (a ∷ []) rest' e l = absurd (omega arith)
+two_front rest (a ∷ b ∷ []) rest' e l = e
+two_front rest (a ∷ b ∷ c ∷ xs) rest' e l = absurd (omega arith)
 
-drop_none : (rs : List ℕ) (i : ℕ) → length rs % 2 ≡ 0 → length rs / 2 ≤ i → drop (2 * i) rs ≡ []
-drop_none rs i e h = drop_of_length-le rs {i = 2 * i} (omega arith)
+-- a byte by itself is none
+pub none_left : (rest : List ℕ) → length rest % 2 ≡ 0 → length rest < 2 → rest ≡ []
+none_left [] e h = refl
+none_left (a ∷ []) e h = absurd (omega arith)
+none_left (a ∷ b ∷ xs) e h = absurd (omega arith)
 
--- ---- the pass that judges: `good` is whether the records before i are in place
-pub record Judged (w : ℕ) (rs : List ℕ) (good : Bool) (low i : ℕ) : Type 0 where
-  pub within : i ≤ length rs / 2
-  pub rest : ascending w 0 rs ≡ (good && ascending w low (drop (2 * i) rs))
+-- ---- the pass that judges: `good` is whether the records before the rest are in place
+pub record Judged (w : ℕ) (rs : List ℕ) (good : Bool) (low : ℕ) (rest : List ℕ) : Type 0 where
+  pub even : length rest % 2 ≡ 0
+  pub said : ascending w 0 rs ≡ (good && ascending w low rest)
 
-pub judged_start : (w : ℕ) (rs : List ℕ) → Judged w rs true 0 0
-judged_start w rs = record { within = omega arith; rest = refl }
+pub judged_start : (w : ℕ) (rs : List ℕ) → length rs % 2 ≡ 0 → Judged w rs true 0 rs
+judged_start w rs e = record { even = e; said = refl }
 
-module _ (w : ℕ) (rs : List ℕ) (good : Bool) (low i : ℕ) (j : Judged w rs good low i) where
-  pub judged_again : (v : Bool) (c : ℕ)
-      → i < length rs / 2
-      → v ≡ in_place w low (get_or rs (2 * i) 0) (get_or rs (2 * i + 1) 0)
-      → c ≡ code (get_or rs (2 * i) 0) (get_or rs (2 * i + 1) 0)
-      → Judged w rs (good && v) (c + 1) (i + 1)
+module _ (w : ℕ) (rs : List ℕ) (good : Bool) (low : ℕ) (rest : List ℕ) (j : Judged w rs good low rest) where
+  pub judged_again : (x rest' : List ℕ) (v : Bool) (c : ℕ) → rest ≡ x ++ rest' → length x ≡ 2
+      → v ≡ in_place w low (get_or x 0 0) (get_or x 1 0) → c ≡ code (get_or x 0 0) (get_or x 1 0)
+      → Judged w rs (good && v) (c + 1) rest'
   unfolding ascending
-  judged_again v c h e ec = record {
-    within = omega arith;
-    rest = j.rest ∙ rw (drop-two rs i (omega arith), ← e, add-one c, ec) (sym (and_assoc good v _));
-  }
+  judged_again x rest' v c e l p q =
+      let f = two_front rest x rest' e l in
+      let n = ap length f in
+      let d = j.even in
+      record {
+        even = omega arith;
+        said = j.said ∙ rw (f, ← p, add-one c, q) (sym (and_assoc good v _));
+      }
 
-  pub judged_end : length rs % 2 ≡ 0 → length rs / 2 ≤ i → good ≡ ascending w 0 rs
+  pub judged_end : length rest < 2 → good ≡ ascending w 0 rs
   unfolding ascending
-  judged_end e h = sym (j.rest ∙ rw (drop_none rs i e h) (and-true good))
+  judged_end h = sym (j.said ∙ rw (none_left rest j.even h) (and-true good))
 
 -- ---- the pass that switches on: what is left, done to the table as it is, is the whole, done to the table handed in
-pub record Switched (w : ℕ) (t₀ rs t : List ℕ) (i : ℕ) : Type 0 where
-  pub within : i ≤ length rs / 2
+pub record Switched (w : ℕ) (t₀ rs t rest : List ℕ) : Type 0 where
+  pub even : length rest % 2 ≡ 0
   pub table : Table w t
-  pub valid : Valid w (orders_of (drop (2 * i) rs))
-  pub rest : apply w (orders_of rs) t₀ ≡ apply w (orders_of (drop (2 * i) rs)) t
+  pub valid : Valid w (orders_of rest)
+  pub done : apply w (orders_of rs) t₀ ≡ apply w (orders_of rest) t
 
-pub switched_start : (w : ℕ) (t rs : List ℕ) → Table w t → Valid w (orders_of rs) → Switched w t rs t 0
-switched_start w t rs l v = record { within = omega arith; table = l; valid = v; rest = refl }
+pub switched_start : (w : ℕ) (t rs : List ℕ) → Table w t → length rs % 2 ≡ 0 → Valid w (orders_of rs) → Switched w t rs t rs
+switched_start w t rs l e v = record { even = e; table = l; valid = v; done = refl }
 
-module _ (w : ℕ) (t₀ rs t : List ℕ) (i : ℕ) (h : i < length rs / 2) (s : Switched w t₀ rs t i) where
-  left_valid : Valid w (orders_of (get_or rs (2 * i) 0 ∷ get_or rs (2 * i + 1) 0 ∷ drop (2 * (i + 1)) rs))
-  left_valid = rw (← drop-two rs i (omega arith)) s.valid
+module _ (w : ℕ) (t₀ rs t rest : List ℕ) (s : Switched w t₀ rs t rest) where
+  module _ (x rest' : List ℕ) (e : rest ≡ x ++ rest') (l : length x ≡ 2) where
+    left_valid : Valid w (orders_of (get_or x 0 0 ∷ get_or x 1 0 ∷ rest'))
+    left_valid = rw (← two_front rest x rest' e l) s.valid
 
-  pub switch-ready : Whole w t (get_or rs (2 * i) 0) (get_or rs (2 * i + 1) 0)
-  unfolding orders_of
-  switch-ready = let v = left_valid in record { table = s.table; row = v.0.0.1; group = v.0.1.1 }
+    pub switch-ready : Whole w t (get_or x 0 0) (get_or x 1 0)
+    unfolding orders_of
+    switch-ready = let v = left_valid in record { table = s.table; row = v.0.0.1; group = v.0.1.1 }
 
-  pub switched_again : (t₁ : List ℕ) → t₁ ≡ set_both w t (get_or rs (2 * i) 0) (get_or rs (2 * i + 1) 0) true → Switched w t₀ rs t₁ (i + 1)
+    pub switched_again : (t₁ : List ℕ) → t₁ ≡ set_both w t (get_or x 0 0) (get_or x 1 0) true → Switched w t₀ rs t₁ rest'
+    unfolding orders_of apply
+    switched_again t₁ q =
+        let f = two_front rest x rest' e l in
+        let n = ap length f in
+        let d = s.even in
+        record {
+          even = omega arith;
+          table = record {
+            some = s.table.some;
+            most = s.table.most;
+            sized = ap length q ∙ length-set_both w t (get_or x 0 0) (get_or x 1 0) true ∙ s.table.sized;
+          };
+          valid = left_valid.1;
+          done = s.done ∙ rw (f, q);
+        }
+
+  pub switched_end : length rest < 2 → t ≡ apply w (orders_of rs) t₀
   unfolding orders_of apply
-  switched_again t₁ e = record {
-    within = omega arith;
-    table = record {
-      some = s.table.some;
-      most = s.table.most;
-      sized = ap length e ∙ length-set_both w t (get_or rs (2 * i) 0) (get_or rs (2 * i + 1) 0) true ∙ s.table.sized;
-    };
-    valid = left_valid.1;
-    rest = s.rest ∙ rw (drop-two rs i (omega arith), e);
-  }
-
-pub switched_end : (w : ℕ) (t₀ rs t : List ℕ) (i : ℕ) → length rs % 2 ≡ 0 → length rs / 2 ≤ i → Switched w t₀ rs t i → t ≡ apply w (orders_of rs) t₀
-unfolding orders_of apply
-switched_end w t₀ rs t i e h s = sym (s.rest ∙ rw (drop_none rs i e h))
+  switched_end h = sym (s.done ∙ rw (none_left rest s.even h))

@@ -8,7 +8,6 @@ use native.Mathlib.Numerals.{add-one}
 use native.Mathlib.Omega.{arith}
 use borrow.Author.Tests.{not-true, not-false}
 use lib.ListN.{length, set}
-use Rattle.wire.specs.Runs.{texts}
 use Rattle.permit.specs.Permission.{groups, P, reaches}
 use Rattle.permit.proofs.ReachLaws.{reach_held}
 use Rattle.lines.specs.Written.{written, Wrote}

@@ -36,11 +36,10 @@ fn put_row(width: usize, permissions: &[u8], a: ZoneGroup, file: &mut [u8], at: 
     requires { Table width permissions.now × (a.0 < groups width) × (at + length (row_records width permissions.now a.0) ≤ length file.old) }
     ensures { Wrote file.old at (row_records width permissions.now a.0) result file.new }
 {
+    let groups = (8 * width) as u8;
     let mut end = at;
-    let mut b = a.0;
-    while (b as usize) < 8 * width {
+    for b in a.0..groups {
         end = put_pair(width, permissions, a, ZoneGroup(b), file, end);
-        b += 1;
     }
     end
 }
@@ -50,11 +49,10 @@ pub fn put_pairs(width: usize, permissions: &[u8], file: &mut [u8]) -> usize
     requires { Table width permissions.now × (length (pairs_of width permissions.now) ≤ length file.old) }
     ensures { Wrote file.old 0 (pairs_of width permissions.now) result file.new }
 {
+    let groups = (8 * width) as u8;
     let mut end: usize = 0;
-    let mut a: u8 = 2;
-    while (a as usize) < 8 * width {
+    for a in 2..groups {
         end = put_row(width, permissions, ZoneGroup(a), file, end);
-        a += 1;
     }
     end
 }
@@ -78,12 +76,11 @@ fn is_row_fair(width: usize, permissions: &[u8], a: ZoneGroup) -> bool
     requires { Table width permissions.now × (a.0 < groups width) }
     ensures { result ≡ fair_row width permissions.now a.0 }
 {
-    let mut b = a.0;
-    while (b as usize) < 8 * width {
+    let groups = (8 * width) as u8;
+    for b in a.0..groups {
         if !is_fair(width, permissions, a, ZoneGroup(b)) {
             return false;
         }
-        b += 1;
     }
     true
 }
@@ -93,12 +90,11 @@ pub fn is_described(width: usize, permissions: &[u8]) -> bool
     requires { Table width permissions.now }
     ensures { result ≡ described width permissions.now }
 {
-    let mut a: u8 = 0;
-    while (a as usize) < 8 * width {
+    let groups = (8 * width) as u8;
+    for a in 0..groups {
         if !is_row_fair(width, permissions, ZoneGroup(a)) {
             return false;
         }
-        a += 1;
     }
     true
 }
@@ -124,16 +120,13 @@ pub fn is_ascending(width: usize, records: &[u8]) -> bool
     requires { Width width × (length records.now % 2 ≡ 0) }
     ensures { result ≡ ascending width 0 records.now }
 {
-    let n = records.len() / 2;
     let mut good = true;
     let mut low: usize = 0;
-    let mut i: usize = 0;
-    while i < n {
-        let a = records[2 * i];
-        let b = records[2 * i + 1];
+    for record in records.chunks_exact(2) {
+        let a = record[0];
+        let b = record[1];
         good = good & is_in_place(width, low, a, b);
         low = code(a, b) + 1;
-        i += 1;
     }
     good
 }
@@ -143,16 +136,13 @@ pub fn switch_on(width: usize, permissions: &mut [u8], records: &[u8])
     requires { Table width permissions.old × (length records.now % 2 ≡ 0) × Valid width (orders_of records.now) }
     ensures { permissions.new ≡ apply width (orders_of records.now) permissions.old }
 {
-    let n = records.len() / 2;
-    let mut i: usize = 0;
-    while i < n {
+    for record in records.chunks_exact(2) {
         permit::write_both(
             width,
             permissions,
-            ZoneGroup(records[2 * i]),
-            ZoneGroup(records[2 * i + 1]),
+            ZoneGroup(record[0]),
+            ZoneGroup(record[1]),
             true,
         );
-        i += 1;
     }
 }

@@ -2,15 +2,14 @@
 -- Assumes nothing.
 use mathlib.Core.Path.{◌≡◌, refl, sym, ap, ◌∙◌, subst}
 use mathlib.Core.Bool.{Bool, true, false, ◌&&◌}
-use mathlib.Core.List.{List, [], ◌∷◌}
+use mathlib.Core.List.{List, [], ◌∷◌, ◌++◌}
 use Prim.Native.Nat.{ℕ, zero, suc, ◌+◌, ◌*◌, ◌/◌, ◌%◌, ◌≤◌, ◌<◌}
 use native.Mathlib.Nat.{add-zero, zero-add, sub-zero}
 use native.Mathlib.Numerals.{add-one}
 use native.Mathlib.Omega.{arith}
 use borrow.Author.Tests.{lt-ltb, le-ltb, ltb-true, le-leb, lt-leb}
 use lib.Dec.{leb, ltb}
-use lib.ListN.{length, drop, get_or, set, drop_of_length-le}
-use lib.Seq.{drop-cons}
+use lib.ListN.{length, get_or, set}
 use Rattle.wire.specs.Runs.{texts}
 use Rattle.wire.proofs.RunLaws.{Judged, judged_start}
 use Rattle.tables.specs.Phys.{phy_record, phy_count, phy_byte, zoned}
@@ -105,49 +104,53 @@ module _ (w : ℕ) (phys : List ℕ) where
       → v ≡ entry_writable w (block_of phys) i
   phy_judged i v h e = entry_judged w (block_of phys) i v (e ∙ rw (block_first phys i h, block_group phys i h, byte0 phys i))
 
--- ---- a block that is read, entry by entry
-drop-three : (b : List ℕ) (i : ℕ) → 3 * i + 2 < length b
-    → drop (3 * i) b ≡ get_or b (3 * i) 0 ∷ get_or b (3 * i + 1) 0 ∷ get_or b (3 * i + 2) 0 ∷ drop (3 * (i + 1)) b
-drop-three b i h =
-    let p : suc (3 * i) ≡ 3 * i + 1 = omega arith in
-    let q : suc (3 * i + 1) ≡ 3 * i + 2 = omega arith in
-    let r : suc (3 * i + 2) ≡ 3 * (i + 1) = omega arith in
-    drop-cons b (3 * i) 0 (omega arith)
-    ∙ ap (λ (l : List ℕ). get_or b (3 * i) 0 ∷ l)
-    (ap (λ (k : ℕ). drop k b) p ∙ drop-cons b (3 * i + 1) 0 (omega arith)
-    ∙ ap (λ (l : List ℕ). get_or b (3 * i + 1) 0 ∷ l)
-    (ap (λ (k : ℕ). drop k b) q ∙ drop-cons b (3 * i + 2) 0 h ∙ ap (λ (k : ℕ). get_or b (3 * i + 2) 0 ∷ drop k b) r))
+-- ---- an entry at the front of those that are left
+three_front : (rest e rest' : List ℕ) → rest ≡ e ++ rest' → length e ≡ 3 → rest ≡ get_or e 0 0 ∷ get_or e 1 0 ∷ get_or e 2 0 ∷ rest'
+three_front rest [] rest' p l = absurd (omega arith)
+three_front rest (i ∷ []) rest' p l = absurd (omega arith)
+three_front rest (i ∷ x ∷ []) rest' p l = absurd (omega arith)
+three_front rest (i ∷ x ∷ y ∷ []) rest' p l = p
+three_front rest (i ∷ x ∷ y ∷ z ∷ zs) rest' p l = absurd (omega arith)
 
-drop_none : (b : List ℕ) (i : ℕ) → length b % 3 ≡ 0 → length b / 3 ≤ i → drop (3 * i) b ≡ []
-drop_none b i e h = drop_of_length-le b {i = 3 * i} (omega arith)
+-- one or two bytes by themselves are none
+none_left : (rest : List ℕ) → length rest % 3 ≡ 0 → length rest < 3 → rest ≡ []
+none_left [] e h = refl
+none_left (i ∷ []) e h = absurd (omega arith)
+none_left (i ∷ x ∷ []) e h = absurd (omega arith)
+none_left (i ∷ x ∷ y ∷ zs) e h = absurd (omega arith)
 
 -- ---- in range, and ascending: the whole is so where what is left is
-pub record Counted (count : ℕ) (b : List ℕ) (low i : ℕ) : Type 0 where
-  pub within : i ≤ length b / 3
-  pub rest : numbered count 0 b ≡ numbered count low (drop (3 * i) b)
+pub record Counted (count : ℕ) (b : List ℕ) (low : ℕ) (rest : List ℕ) : Type 0 where
+  pub whole : length rest % 3 ≡ 0
+  pub said : numbered count 0 b ≡ numbered count low rest
 
-pub counted_start : (count : ℕ) (b : List ℕ) → Counted count b 0 0
-counted_start count b = record { within = omega arith; rest = refl }
+pub counted_start : (count : ℕ) (b : List ℕ) → length b % 3 ≡ 0 → Counted count b 0 b
+counted_start count b e = record { whole = e; said = refl }
 
-module _ (count : ℕ) (b : List ℕ) (low i : ℕ) (h : i < length b / 3) (s : Counted count b low i) where
-  pub counted_below : get_or b (3 * i) 0 < low → false ≡ numbered count 0 b
+module _ (count : ℕ) (b : List ℕ) (low : ℕ) (rest : List ℕ) (s : Counted count b low rest) where
+  module _ (e rest' : List ℕ) (p : rest ≡ e ++ rest') (l : length e ≡ 3) where
+    pub counted_below : get_or e 0 0 < low → false ≡ numbered count 0 b
+    unfolding numbered
+    counted_below h = sym (s.said ∙ rw (three_front rest e rest' p l, lt-leb low (get_or e 0 0) h))
+
+    pub counted_above : low ≤ get_or e 0 0 → count ≤ get_or e 0 0 → false ≡ numbered count 0 b
+    unfolding numbered
+    counted_above h u = sym (s.said ∙ rw (three_front rest e rest' p l, le-leb low (get_or e 0 0) h, le-ltb (get_or e 0 0) count u))
+
+    pub counted_again : low ≤ get_or e 0 0 → get_or e 0 0 < count → Counted count b (get_or e 0 0 + 1) rest'
+    unfolding numbered
+    counted_again h u =
+        let f = three_front rest e rest' p l in
+        let n = ap length f in
+        let d = s.whole in
+        record {
+          whole = omega arith;
+          said = s.said ∙ rw (f, le-leb low (get_or e 0 0) h, lt-ltb (get_or e 0 0) count u, add-one (get_or e 0 0));
+        }
+
+  pub counted_end : length rest < 3 → true ≡ numbered count 0 b
   unfolding numbered
-  counted_below l = sym (s.rest ∙ rw (drop-three b i (omega arith), lt-leb low (get_or b (3 * i) 0) l))
-
-  pub counted_above : low ≤ get_or b (3 * i) 0 → count ≤ get_or b (3 * i) 0 → false ≡ numbered count 0 b
-  unfolding numbered
-  counted_above l u = sym (s.rest ∙ rw (drop-three b i (omega arith), le-leb low (get_or b (3 * i) 0) l, le-ltb (get_or b (3 * i) 0) count u))
-
-  pub counted_again : low ≤ get_or b (3 * i) 0 → get_or b (3 * i) 0 < count → Counted count b (get_or b (3 * i) 0 + 1) (i + 1)
-  unfolding numbered
-  counted_again l u = record {
-    within = omega arith;
-    rest = s.rest ∙ rw (drop-three b i (omega arith), le-leb low (get_or b (3 * i) 0) l, lt-ltb (get_or b (3 * i) 0) count u, add-one (get_or b (3 * i) 0));
-  }
-
-pub counted_end : (count : ℕ) (b : List ℕ) (low i : ℕ) → length b % 3 ≡ 0 → length b / 3 ≤ i → Counted count b low i → true ≡ numbered count 0 b
-unfolding numbered
-counted_end count b low i e h s = sym (s.rest ∙ rw (drop_none b i e h))
+  counted_end h = sym (s.said ∙ rw (none_left rest s.whole h))
 
 -- every number of a block that is in order is a phy's
 pub numbers_below : (count low : ℕ) (b : List ℕ) → numbered count low b ≡ true → Below count b
@@ -160,31 +163,36 @@ numbers_below count low (i ∷ x ∷ y ∷ rest) e =
     (ltb-true i count (both (leb low i) (ltb i count) p.0).1, numbers_below count (suc i) rest p.1)
 
 -- ---- the pass that writes: what is left, done to the table as it is, is the whole, done to the table handed in
-pub record Rezoned (phys₀ b phys : List ℕ) (i : ℕ) : Type 0 where
-  pub within : i ≤ length b / 3
+pub record Rezoned (phys₀ b phys rest : List ℕ) : Type 0 where
+  pub whole : length rest % 3 ≡ 0
   pub same : length phys ≡ length phys₀
-  pub there : Below (phy_count phys₀) (drop (3 * i) b)
-  pub rest : rezoned phys₀ b ≡ rezoned phys (drop (3 * i) b)
+  pub there : Below (phy_count phys₀) rest
+  pub done : rezoned phys₀ b ≡ rezoned phys rest
 
-pub rezoned-start : (phys b : List ℕ) → Below (phy_count phys) b → Rezoned phys b phys 0
-rezoned-start phys b h = record { within = omega arith; same = refl; there = h; rest = refl }
+pub rezoned-start : (phys b : List ℕ) → length b % 3 ≡ 0 → Below (phy_count phys) b → Rezoned phys b phys b
+rezoned-start phys b e h = record { whole = e; same = refl; there = h; done = refl }
 
-module _ (phys₀ b phys : List ℕ) (i : ℕ) (h : i < length b / 3) (s : Rezoned phys₀ b phys i) where
-  left_below : Below (phy_count phys₀) (get_or b (3 * i) 0 ∷ get_or b (3 * i + 1) 0 ∷ get_or b (3 * i + 2) 0 ∷ drop (3 * (i + 1)) b)
-  left_below = subst (Below (phy_count phys₀)) (drop-three b i (omega arith)) s.there
+module _ (phys₀ b phys rest : List ℕ) (s : Rezoned phys₀ b phys rest) where
+  module _ (e rest' : List ℕ) (p : rest ≡ e ++ rest') (l : length e ≡ 3) where
+    left_below : Below (phy_count phys₀) (get_or e 0 0 ∷ get_or e 1 0 ∷ get_or e 2 0 ∷ rest')
+    left_below = subst (Below (phy_count phys₀)) (three_front rest e rest' p l) s.there
 
-  pub rezoned-ready : get_or b (3 * i) 0 < phy_count phys
-  rezoned-ready = let l = left_below.0 in let q = s.same in omega arith
+    pub rezoned-ready : get_or e 0 0 < phy_count phys
+    rezoned-ready = let k = left_below.0 in let q = s.same in omega arith
 
-  pub rezoned_again : (phys₁ : List ℕ) → phys₁ ≡ zoned phys (get_or b (3 * i) 0) (get_or b (3 * i + 1) 0) (get_or b (3 * i + 2) 0) → Rezoned phys₀ b phys₁ (i + 1)
+    pub rezoned_again : (phys₁ : List ℕ) → phys₁ ≡ zoned phys (get_or e 0 0) (get_or e 1 0) (get_or e 2 0) → Rezoned phys₀ b phys₁ rest'
+    unfolding rezoned
+    rezoned_again phys₁ q =
+        let f = three_front rest e rest' p l in
+        let n = ap length f in
+        let d = s.whole in
+        record {
+          whole = omega arith;
+          same = ap length q ∙ length-zoned phys (get_or e 0 0) (get_or e 1 0) (get_or e 2 0) ∙ s.same;
+          there = left_below.1;
+          done = s.done ∙ rw (f, q);
+        }
+
+  pub rezoned_end : length rest < 3 → phys ≡ rezoned phys₀ b
   unfolding rezoned
-  rezoned_again phys₁ e = record {
-    within = omega arith;
-    same = ap length e ∙ length-zoned phys (get_or b (3 * i) 0) (get_or b (3 * i + 1) 0) (get_or b (3 * i + 2) 0) ∙ s.same;
-    there = left_below.1;
-    rest = s.rest ∙ rw (drop-three b i (omega arith), e);
-  }
-
-pub rezoned_end : (phys₀ b phys : List ℕ) (i : ℕ) → length b % 3 ≡ 0 → length b / 3 ≤ i → Rezoned phys₀ b phys i → phys ≡ rezoned phys₀ b
-unfolding rezoned
-rezoned_end phys₀ b phys i e h s = sym (s.rest ∙ rw (drop_none b i e h))
+  rezoned_end h = sym (s.done ∙ rw (none_left rest s.whole h))

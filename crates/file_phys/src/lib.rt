@@ -27,12 +27,10 @@ pub fn put_phys(phys: &[u8], file: &mut [u8], at: usize) -> usize
     requires { (length phys.now ≤ 128 * phy_record) × (at + length (block_of phys.now) ≤ length file.old) }
     ensures { Wrote file.old at (block_of phys.now) result file.new }
 {
-    let count = phys.len() / PHY_RECORD;
+    let count = (phys.len() / PHY_RECORD) as u8;
     let mut end = at;
-    let mut phy: u8 = 0;
-    while (phy as usize) < count {
+    for phy in 0..count {
         end = put_phy(phys, PhyNumber(phy), file, end);
-        phy += 1;
     }
     end
 }
@@ -54,12 +52,10 @@ pub fn are_phys_writable(width: usize, phys: &[u8]) -> bool
     ensures { result ≡ all_writable width (block_of phys.now) }
 {
     let count = phys.len() / PHY_RECORD;
-    let mut i: usize = 0;
-    while i < count {
+    for i in 0..count {
         if !is_writable(width, phys[PHY_RECORD * i], phys[PHY_RECORD * i + 1]) {
             return false;
         }
-        i += 1;
     }
     true
 }
@@ -69,13 +65,10 @@ pub fn is_block_writable(width: usize, block: &[u8]) -> bool
     requires { Width width }
     ensures { result ≡ all_writable width block.now }
 {
-    let n = block.len() / 3;
-    let mut i: usize = 0;
-    while i < n {
+    for i in 0..block.len() / 3 {
         if !is_writable(width, block[3 * i + 1], block[3 * i + 2]) {
             return false;
         }
-        i += 1;
     }
     true
 }
@@ -85,11 +78,9 @@ pub fn is_numbered(block: &[u8], count: usize) -> bool
     requires { length block.now % 3 ≡ 0 }
     ensures { result ≡ numbered count 0 block.now }
 {
-    let n = block.len() / 3;
     let mut low: usize = 0;
-    let mut i: usize = 0;
-    while i < n {
-        let phy = block[3 * i] as usize;
+    for entry in block.chunks_exact(3) {
+        let phy = entry[0] as usize;
         if phy < low {
             return false;
         }
@@ -97,7 +88,6 @@ pub fn is_numbered(block: &[u8], count: usize) -> bool
             return false;
         }
         low = phy + 1;
-        i += 1;
     }
     true
 }
@@ -107,15 +97,7 @@ pub fn write_zones(phys: &mut [u8], block: &[u8])
     requires { (length block.now % 3 ≡ 0) × Below (phy_count phys.old) block.now }
     ensures { phys.new ≡ rezoned phys.old block.now }
 {
-    let n = block.len() / 3;
-    let mut i: usize = 0;
-    while i < n {
-        tables::write_zone(
-            phys,
-            PhyNumber(block[3 * i]),
-            block[3 * i + 1],
-            block[3 * i + 2],
-        );
-        i += 1;
+    for entry in block.chunks_exact(3) {
+        tables::write_zone(phys, PhyNumber(entry[0]), entry[1], entry[2]);
     }
 }

@@ -1,22 +1,20 @@
 -- The trailer's numbers, put one behind the other, and what is read of them.
 -- Assumes nothing.
 use mathlib.Core.Path.{◌≡◌, refl, sym, ap, ◌∙◌}
-use mathlib.Core.List.{List}
-use Prim.Native.Nat.{ℕ, ◌+◌, ◌*◌, ◌/◌, ◌%◌}
-use native.Mathlib.Numerals.{add-one}
-use lib.ListN.{length, set}
-use Rattle.tables.specs.Refusals.{first_refusal}
-use Rattle.tables.proofs.RefusalLaws.{first, here, next, none}
-use Rattle.lines.specs.Written.{written, Wrote}
+use mathlib.Core.List.{List, ◌++◌}
+use Prim.Native.Nat.{ℕ, ◌+◌, ◌*◌}
+use lib.ListN.{length}
+use Rattle.std.proofs.Common.{Result}
+use Rattle.std.specs.Prelude.{IsErrAnd, ⊤}
+use Rattle.std.proofs.lemmas.Result.{err_from_is_err_and}
+use Rattle.tables.specs.Refusals.{Check, first_refusal}
+use Rattle.tables.specs.Numbers.{number, refused}
+use Rattle.tables.specs.declared.refusal.Refusal.{Refusal}
+use Rattle.tables.proofs.AnswerLaws.{number_above}
+use Rattle.tables.proofs.RefusalLaws.{first, here, next, none, front, back}
+use Rattle.lines.specs.Written.{Wrote}
 use Rattle.lines.proofs.Lines.{behind}
 use Rattle.file_trailer.specs.Trailer.{two, four, trailer, count_of, offset_of, size_of, lengths_checks}
-
-pub two-put : (t : List ℕ) (at x : ℕ) → Wrote t at (two x) (at + 2) (set (set t at (x / 256)) (at + 1) (x % 256))
-unfolding written
-two-put t at x = record { ends = refl; wrote = rw (add-one at) }
-
-pub four-put : (t t₁ t₂ : List ℕ) (at i j x : ℕ) → Wrote t at (two (x / 65536)) i t₁ → Wrote t₁ i (two (x % 65536)) j t₂ → Wrote t at (four x) j t₂
-four-put t t₁ t₂ at i j x p q = behind p q
 
 pub trailer-put : (t t₁ t₂ t₃ t₄ : List ℕ) (at i j k l version records size : ℕ) → Wrote t at (two version) i t₁ → Wrote t₁ i (two records) j t₂
     → Wrote t₂ j (four 0) k t₃ → Wrote t₃ k (four size) l t₄ → Wrote t at (trailer version records 0 size) l t₄
@@ -26,6 +24,18 @@ trailer-put t t₁ t₂ t₃ t₄ at i j k l version records size p q r s = behi
 pub length-trailer : (version records offset size : ℕ) → length (trailer version records offset size) ≡ 12
 unfolding trailer
 length-trailer version records offset size = refl
+
+-- ---- where the lengths are judged first, and then other rows `own`: a refusal that a `?` hands on in r
+pub lengths_front : (file : List ℕ) (beside : ℕ) (own : List Check) (r : Result ⊤ Refusal) (e : Refusal) → IsErrAnd r (λ y. y ≡ e)
+    → number e ≡ first_refusal (lengths_checks file beside) → refused r ≡ first_refusal (lengths_checks file beside ++ own)
+lengths_front file beside own r e h q =
+    let p = err_from_is_err_and r h in
+    rw (p.1, p.2) (front (lengths_checks file beside) own (number e) q (number_above e))
+
+-- or none, and the others give n
+pub lengths_back : (file : List ℕ) (beside n : ℕ) (own : List Check) → 0 ≡ first_refusal (lengths_checks file beside) → n ≡ first_refusal own
+    → n ≡ first_refusal (lengths_checks file beside ++ own)
+lengths_back file beside n own e en = back (lengths_checks file beside) own 0 n tt e refl en
 
 -- ---- what the lengths are refused for, by each way out: s, n and o are what was read
 module _ (file : List ℕ) (beside s : ℕ) (es : s ≡ size_of file) where

@@ -1,20 +1,22 @@
 -- A save's answer, and a load's, is one in its numbers.
 -- Assumes nothing.
-use mathlib.Core.Path.{◌≡◌}
-use Rattle.file_trailer.specs.Answers.{saved_as, loaded_as}
-use Rattle.file_trailer.specs.declared.Saved.{Saved}
-use Rattle.file_trailer.specs.declared.Saved.TheVariants as saves
-use Rattle.file_trailer.specs.declared.Loaded.{Loaded}
-use Rattle.file_trailer.specs.declared.Loaded.TheVariants as loads
+use mathlib.Core.Path.{◌≡◌, refl}
+use Prim.Native.Nat.{ℕ}
+use Rattle.std.proofs.Common.{Result, [], ◌∷◌}
+use Rattle.tables.specs.declared.refusal.Refusal.{Refusal}
+use Rattle.tables.proofs.AnswerLaws.{one_answered}
+use Rattle.file_trailer.specs.Answers.{saved_as, version_number, loaded_as}
+use Rattle.file_trailer.specs.declared.Version.{Version}
+use Rattle.file_trailer.specs.declared.Version.TheVariants.{One, Two}
 
-pub one_save : (r q : Saved) → saved_as r ≡ saved_as q → r ≡ q
-one_save (saves.Refused m) (saves.Refused n) e = cc
-one_save (saves.Refused m) (saves.Written n) e = cc
-one_save (saves.Written m) (saves.Refused n) e = cc
-one_save (saves.Written m) (saves.Written n) e = cc
+pub one_save : (r q : Result ℕ Refusal) → saved_as r ≡ saved_as q → r ≡ q
+one_save = one_answered (λ n. n ∷ []) (λ a b e. cc)
 
-pub one_load : (r q : Loaded) → loaded_as r ≡ loaded_as q → r ≡ q
-one_load (loads.Refused m) (loads.Refused n) e = cc
-one_load (loads.Refused m) (loads.Version n) e = cc
-one_load (loads.Version m) (loads.Refused n) e = cc
-one_load (loads.Version m) (loads.Version n) e = cc
+one_version : (a b : Version) → version_number a ∷ [] ≡ version_number b ∷ [] → a ≡ b
+one_version One One e = refl
+one_version One Two e = cc
+one_version Two One e = cc
+one_version Two Two e = refl
+
+pub one_load : (r q : Result Version Refusal) → loaded_as r ≡ loaded_as q → r ≡ q
+one_load = one_answered (λ v. version_number v ∷ []) one_version

@@ -1,50 +1,32 @@
-// The trailer of a saved file, and what saves and loads answer.
+// The trailer of a saved file, and the version that a load answers.
 #![tactic(auto)]
 
 ghost use Rattle.std.specs.Prelude.{◌≡◌, ◌+◌, ◌*◌, ◌≤◌, ◌<◌, length};
 ghost use Rattle.tables.specs.Refusals.{first_refusal};
+ghost use Rattle.tables.specs.Numbers.{refused};
 ghost use Rattle.lines.specs.Written.{Wrote};
+ghost use Rattle.file_trailer.specs.Answers.{version_number};
 ghost use Rattle.file_trailer.specs.Trailer.{two, four, trailer, version_of, count_of, offset_of, size_of, lengths_checks};
 
-#[derive(Clone, Copy)]
-pub enum Saved {
-    Refused(u8),
-    // The file's length.
-    Written(u32),
+use tables::refusal::Refusal;
+
+// The version of a file that was read.
+#[derive(Clone, Copy, Debug, PartialEq, Eq)]
+pub enum Version {
+    One,
+    Two,
 }
 
-#[derive(Clone, Copy)]
-pub enum Loaded {
-    Refused(u8),
-    // The file's version.
-    Version(u16),
+impl From<Version> for u16 {
+    ghost from_gives = { λ version n. n ≡ version_number version };
+
+    fn from(version: Version) -> u16 {
+        match version {
+            Version::One => 1,
+            Version::Two => 2,
+        }
+    }
 }
-
-// Why a file is not loaded, in the order of checking.
-pub const TOO_SHORT: u8 = 31;
-
-pub const IS_VERSION_2: u8 = 32;
-
-pub const VERSION_UNKNOWN: u8 = 33;
-
-pub const LENGTHS_DISAGREE: u8 = 34;
-
-pub const OFFSET_DISAGREES: u8 = 35;
-
-pub const PHY_COUNT_DISAGREES: u8 = 36;
-
-pub const BAD_PAIR: u8 = 37;
-
-pub const BAD_PHY: u8 = 38;
-
-pub const BAD_ZONE: u8 = 39;
-
-// Why a table is not saved.
-pub const NO_ROOM: u8 = 3;
-
-pub const PERMISSIONS_NOT_AS_DESCRIBED: u8 = 40;
-
-pub const PHYS_NOT_AS_DESCRIBED: u8 = 41;
 
 // The bytes of the trailer that both versions have, and the room that both saves ask for.
 pub const TRAILER: usize = 12;
@@ -56,17 +38,14 @@ pub fn put_two(x: u16, file: &mut [u8], at: usize) -> usize
     requires { at + 2 ≤ length file.old }
     ensures { Wrote file.old at (two x) result file.new }
 {
-    file[at] = (x / 256) as u8;
-    file[at + 1] = (x % 256) as u8;
-    at + 2
+    lines::put_bytes(&x.to_be_bytes(), file, at)
 }
 
-fn put_four(x: u32, file: &mut [u8], at: usize) -> usize
+fn put_four(number: u32, file: &mut [u8], at: usize) -> usize
     requires { at + 4 ≤ length file.old }
-    ensures { Wrote file.old at (four x) result file.new }
+    ensures { Wrote file.old at (four number) result file.new }
 {
-    let low = put_two((x / 65536) as u16, file, at);
-    put_two((x % 65536) as u16, file, low)
+    lines::put_bytes(&number.to_be_bytes(), file, at)
 }
 
 // The offset of the first record is 0.
@@ -109,18 +88,18 @@ fn size_of(file: &[u8]) -> u64
 }
 
 // Whether what the trailer says of the file's length, and of where the records begin, is so; `beside` bytes stand beside the records.
-pub fn lengths_refusal(file: &[u8], beside: u64) -> u8
+pub fn check_lengths(file: &[u8], beside: u64) -> Result<(), Refusal>
     requires { (12 ≤ length file.now) × (beside < 1000000) }
-    ensures { result ≡ first_refusal (lengths_checks file.now beside) }
+    ensures { refused result ≡ first_refusal (lengths_checks file.now beside) }
 {
     if size_of(file) != file.len() as u64 {
-        return LENGTHS_DISAGREE;
+        return Err(Refusal::LengthsDisagree);
     }
     if 2 * count_of(file) + beside != file.len() as u64 {
-        return LENGTHS_DISAGREE;
+        return Err(Refusal::LengthsDisagree);
     }
     if offset_of(file) != 0 {
-        return OFFSET_DISAGREES;
+        return Err(Refusal::OffsetDisagrees);
     }
-    0
+    Ok(())
 }

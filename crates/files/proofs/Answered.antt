@@ -23,7 +23,7 @@ answered zero values vs old new bs e = record { passed = refl; same = cc; left =
 answered (suc n) values vs old new bs e = absurd (let z : ◌≡◌ {A = ℕ} 0 1 = cc in omega arith)
 
 pub passes : (n : ℕ) (values : List ℕ) (old new : List (List ℕ)) → 0 ≡ n → outcome n values old new ≡ out (answer values) new
-passes n values old new e = sym (gives (answer values) values 0 n new old new e refl refl refl)
+passes n values old new e = sym (gives (answer values) values n new old new e refl refl)
 
 -- ---- the row on the permission table's size, which every call has
 pub sized_row : (w : ℕ) (t : List ℕ) → length t ≡ table_size w → not (permissions_sized w t) ≡ false

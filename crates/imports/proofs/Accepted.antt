@@ -8,7 +8,8 @@ use native.Mathlib.Omega.{arith}
 use borrow.Author.Tests.{ne_eqb}
 use lib.Dec.{eqb}
 use lib.ListN.{length}
-use Rattle.wire.specs.declared.OutsideGroup.{OutsideGroup}
+use Rattle.std.proofs.Common.{Option}
+use Rattle.wire.specs.declared.ZoneGroup.{ZoneGroup}
 use Rattle.permit.specs.Permission.{set_both}
 use Rattle.permit.specs.Orders.{order, apply}
 use Rattle.permit.specs.History.{Valid}
@@ -19,7 +20,7 @@ use Rattle.requests.specs.Requests.{smp_source}
 use Rattle.sheet_lines.specs.Line.{Line, line, bad, line_of}
 use Rattle.imports.specs.Import.{import_checks, order_checks, Done, done, unless_stopped, obeyed, import_lines, imports, done_orders, done_values, import_out, import_orders}
 
-module _ (w : ℕ) (source : OutsideGroup) where
+module _ (w : ℕ) (source : Option ZoneGroup) where
   -- an order that is carried out names two such groups
   valid_order : (a b : ℕ) (v : Bool) (t : List ℕ) (n : ℕ) → n ≡ first_refusal (order_checks w source t a b) → (d : Done) → Valid w (done_orders d)
       → Valid w (done_orders (unless_stopped n (order a b v) d))

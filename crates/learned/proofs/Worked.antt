@@ -8,8 +8,8 @@ use Prim.Native.Nat.{ℕ}
 use native.Mathlib.Omega.{arith}
 use borrow.Author.Tests.{eq-eqb}
 use lib.ListN.{length, get_or, replicate}
-use Rattle.wire.specs.declared.OutsideGroup.{OutsideGroup}
-use Rattle.wire.specs.declared.OutsideGroup.TheVariants.{Group}
+use Rattle.std.proofs.Common.{Option, Some}
+use Rattle.wire.specs.declared.ZoneGroup.{ZoneGroup}
 use Rattle.wire.specs.Address.{big_endian, address_at}
 use Rattle.wire.specs.Groups.{outside_group}
 use Rattle.wire.specs.Bits.{bit, set_bit, tab}
@@ -63,8 +63,8 @@ computed_1 = record {
 }
 
 -- ---- two shelves whose callers are of group 4
-abbrev four : OutsideGroup
-four = Group (record { 0 = 4 })
+abbrev four : Option ZoneGroup
+four = Some (record { 0 = 4 })
 
 -- what a phy that is not permitted would need
 absent : {A : Type 0} (b : Bool) → b ≡ false → b ≡ true → A
@@ -72,11 +72,11 @@ absent b e h = absurd (let z : ◌≡◌ {A = ℕ} 0 1 = cc in omega arith)
 
 module _ (w : ℕ) (a b : Shelf) (ea : source_of a ≡ four) (eb : source_of b ≡ four) where
   reached : (i : ℕ) → permitted_to w a i ≡ reaches w a.permissions 4 (phy_group a.phys i)
-  reached i = ap (λ (o : OutsideGroup). source_reaches w a.permissions o (phy_group a.phys i)) ea
+  reached i = ap (λ (o : Option ZoneGroup). source_reaches w a.permissions o (phy_group a.phys i)) ea
 
   permitted : (i : ℕ) (v : Bool) → reaches w a.permissions 4 (phy_group a.phys i) ≡ v → reaches w b.permissions 4 (phy_group b.phys i) ≡ v
       → permitted_to w a i ≡ permitted_to w b i
-  permitted i v p q = reached i ∙ p ∙ sym q ∙ ap (λ (o : OutsideGroup). source_reaches w b.permissions o (phy_group b.phys i)) (sym eb)
+  permitted i v p q = reached i ∙ p ∙ sym q ∙ ap (λ (o : Option ZoneGroup). source_reaches w b.permissions o (phy_group b.phys i)) (sym eb)
 
   hidden : (i : ℕ) → reaches w a.permissions 4 (phy_group a.phys i) ≡ false → permitted_to w a i ≡ true → record_of a i ≡ record_of b i
   hidden i e h = absent _ (reached i ∙ e) h

@@ -5,15 +5,17 @@ use mathlib.Core.List.{List, [], ◌∷◌, ◌++◌}
 use Prim.Native.Nat.{ℕ, zero, suc, ◌+◌, ◌≤◌, ◌<◌}
 use native.Mathlib.Nat.{zero-add}
 use native.Mathlib.Omega.{arith}
-use borrow.Author.Tests.{le-leb, lt-leb, le-ltb, eq-eqb, ne_eqb}
+use borrow.Author.Tests.{le-leb, lt-leb, le-ltb, eq-eqb}
 use lib.ListN.{length, drop}
 use lib.Seq.{sets-eq}
+use Rattle.std.proofs.Common.{Result, Ok, Err}
 use Rattle.wire.specs.Bits.{tab}
 use Rattle.permit.specs.Permission.{start_byte, start_table}
 use Rattle.permit.specs.Orders.{apply}
 use Rattle.tables.specs.Phys.{phys_sized}
 use Rattle.tables.specs.Arrival.{arrival_checks}
 use Rattle.tables.specs.Refusals.{first_refusal}
+use Rattle.tables.specs.declared.refusal.Refusal.{Refusal}
 use Rattle.tables.specs.Outcome.{Answer, refusal, answer, Out, out, outcome}
 use Rattle.requests.specs.Requests.{smp_source}
 use Rattle.rack.specs.Rack.{rack, flat, rack_table}
@@ -23,26 +25,26 @@ use Rattle.lines.proofs.Lines.{behind}
 use Rattle.imports.specs.Import.{import_checks, Done, done, done_orders, done_values, imported_as, import_out}
 use Rattle.imports.specs.Steps.{Leaves}
 use Rattle.imports.specs.declared.Imported.{Imported}
-use Rattle.imports.specs.declared.Imported.TheVariants.{Refused as NotImported, Stopped, Whole}
+use Rattle.imports.specs.declared.Imported.TheVariants.{Stopped, Whole}
+use Rattle.imports.specs.declared.cause.Cause.{Cause}
+use Rattle.imports.specs.Causes as causes
 use Rattle.exports.specs.Export.{sheet_text, export_checks, exported_as, export_out}
-use Rattle.exports.specs.declared.Exported.{Exported}
-use Rattle.exports.specs.declared.Exported.TheVariants.{Refused as NotExported, Written}
 use Rattle.exports.proofs.ExportLaws.{sheet_length}
 use Rattle.orders_text.specs.OrdersText.{line_word, colon, form_words, group_words, right_words, cause_words, stop_text, too_long_text, given, text_of, orders_text}
 
 -- ---- what is wrong with a line
-module _ (cause : ℕ) (t : List ℕ) (at end : ℕ) (t₁ : List ℕ) where
-  pub form_cause : cause ≡ 1 → Wrote t at form_words end t₁ → Wrote t at (cause_words cause) end t₁ × (end ≤ at + 64)
+module _ (t : List ℕ) (at end : ℕ) (t₁ : List ℕ) where
+  pub form_cause : Wrote t at form_words end t₁ → Wrote t at (cause_words 1) end t₁ × (end ≤ at + 64)
   unfolding cause_words form_words
-  form_cause e w = (rw (eq-eqb cause 1 e) w, omega (arith, w.ends))
+  form_cause w = (w, omega (arith, w.ends))
 
-  pub group_cause : (cause ≡ 1 → ⊥) → cause ≡ 2 → Wrote t at group_words end t₁ → Wrote t at (cause_words cause) end t₁ × (end ≤ at + 64)
+  pub group_cause : Wrote t at group_words end t₁ → Wrote t at (cause_words 2) end t₁ × (end ≤ at + 64)
   unfolding cause_words group_words
-  group_cause d e w = (rw (ne_eqb cause 1 d, eq-eqb cause 2 e) w, omega (arith, w.ends))
+  group_cause w = (w, omega (arith, w.ends))
 
-  pub right_cause : (cause ≡ 1 → ⊥) → (cause ≡ 2 → ⊥) → Wrote t at right_words end t₁ → Wrote t at (cause_words cause) end t₁ × (end ≤ at + 64)
+  pub right_cause : Wrote t at right_words end t₁ → Wrote t at (cause_words 3) end t₁ × (end ≤ at + 64)
   unfolding cause_words right_words
-  right_cause d e w = (rw (ne_eqb cause 1 d, ne_eqb cause 2 e) w, omega (arith, w.ends))
+  right_cause w = (w, omega (arith, w.ends))
 
 pub stop_done : (number cause : ℕ) (t : List ℕ) (a : ℕ) (t₁ : List ℕ) (b : ℕ) (t₂ : List ℕ) (c : ℕ) (t₃ : List ℕ) (d : ℕ) (t₄ : List ℕ) (e : ℕ) (t₅ : List ℕ)
     → Wrote t 0 line_word a t₁ → Wrote t₁ a (decimal number) b t₂ × (b ≤ a + 20) → Wrote t₂ b colon c t₃
@@ -82,22 +84,22 @@ unfolding first_refusal arrival_checks phys_sized smp_source rack_table rack fla
 import_clear n h = rw (le-leb n 88011 h)
 
 -- ---- an export's answer
-module _ (p t : List ℕ) (r : Exported) (t₁ : List ℕ) (sized : length p ≡ 2048) (room : 88011 ≤ length t) (e : out (exported_as r) (t₁ ∷ []) ≡ export_out 16 p t) where
+module _ (p t : List ℕ) (r : Result ℕ Refusal) (t₁ : List ℕ) (sized : length p ≡ 2048) (room : 88011 ≤ length t) (e : out (exported_as r) (t₁ ∷ []) ≡ export_out 16 p t) where
   exported : out (exported_as r) (t₁ ∷ []) ≡ out (answer (length (sheet_text 16 p) ∷ [])) ((sheet_text 16 p ++ drop (length (sheet_text 16 p)) t) ∷ [])
   unfolding outcome
   exported = rw (export_clear p t sized room) at e
 
-  pub pairs_done : (n : ℕ) → r ≡ Written n → Wrote t 0 (sheet_text 16 p) n t₁ × (n ≤ 88011)
+  pub pairs_done : (n : ℕ) → r ≡ Ok n → Wrote t 0 (sheet_text 16 p) n t₁ × (n ≤ 88011)
   pairs_done n k =
       let l = sheet_length 16 p (omega arith) (omega arith) in
       let w = answer_wrote (sheet_text 16 p) t n t₁ (omega arith) (rw k at exported) in
       (w, omega (arith, w.ends))
 
-  pub export_taken : (n : ℕ) → r ≡ NotExported n → ⊥
+  pub export_taken : (e : Refusal) → r ≡ Err e → ⊥
   export_taken n k = absurd (omega (arith, ap values (ap answered (rw k at exported))))
 
 -- ---- an import's answer
-pub orders-given : (sheet phys t : List ℕ) (r : Imported) (t₁ : List ℕ) → length sheet ≤ 88011 → (phys ≡ rack_table) × (t ≡ start_table 16)
+pub orders-given : (sheet phys t : List ℕ) (r : Result Imported Refusal) (t₁ : List ℕ) → length sheet ≤ 88011 → (phys ≡ rack_table) × (t ≡ start_table 16)
     → out (imported_as r) (t₁ ∷ []) ≡ import_out 16 phys t 0 0 sheet → Leaves 16 (given sheet) (start_table 16) r t₁
 unfolding outcome
 orders-given sheet phys t r t₁ h s e =
@@ -105,12 +107,13 @@ orders-given sheet phys t r t₁ h s e =
     rw (s.0, s.1, import_clear (length sheet) h) at e in
     record { answered = cc; applied = cc }
 
-whole_text_lem : (d : Done) (n : ℕ) (p : List ℕ) → Leaves 16 d (start_table 16) (Whole n) p → sheet_text 16 p ≡ text_of d
+whole_text_lem : (d : Done) (n : ℕ) (p : List ℕ) → Leaves 16 d (start_table 16) (Ok (Whole n)) p → sheet_text 16 p ≡ text_of d
 unfolding text_of
 whole_text_lem (done os zero) n p l = ap (sheet_text 16) l.applied
 whole_text_lem (done os (suc k)) n p l = absurd (omega (arith, ap values l.answered))
 
-stop_text_lem : (d : Done) (number cause : ℕ) (p : List ℕ) → Leaves 16 d (start_table 16) (Stopped number cause) p → stop_text number cause ≡ text_of d
+stop_text_lem : (d : Done) (number : ℕ) (cause : Cause) (p : List ℕ) → Leaves 16 d (start_table 16) (Ok (Stopped number cause)) p
+    → stop_text number (causes.number cause) ≡ text_of d
 unfolding text_of
 stop_text_lem (done os zero) number cause p l = absurd (omega (arith, ap values l.answered))
 stop_text_lem (done os (suc k)) number cause p l = cc
@@ -120,15 +123,15 @@ module _ (sheet t : List ℕ) (end : ℕ) (t₁ : List ℕ) (short : length shee
   unfolding orders_text
   answered_by a e w = rw (le-leb (length sheet) 88011 short, ← e) w
 
-  module _ (p : List ℕ) (r : Imported) (l : Leaves 16 (given sheet) (start_table 16) r p) where
-    pub whole_answer : (n : ℕ) → r ≡ Whole n → Wrote t 0 (sheet_text 16 p) end t₁ × (end ≤ 88011) → Wrote t 0 (orders_text sheet) end t₁ × (end ≤ 88011)
+  module _ (p : List ℕ) (r : Result Imported Refusal) (l : Leaves 16 (given sheet) (start_table 16) r p) where
+    pub whole_answer : (n : ℕ) → r ≡ Ok (Whole n) → Wrote t 0 (sheet_text 16 p) end t₁ × (end ≤ 88011) → Wrote t 0 (orders_text sheet) end t₁ × (end ≤ 88011)
     whole_answer n e w = (answered_by (sheet_text 16 p) (whole_text_lem (given sheet) n p (rw e at l)) w.0, w.1)
 
-    pub stop_answer : (number cause : ℕ) → r ≡ Stopped number cause → Wrote t 0 (stop_text number cause) end t₁ × (end ≤ 128)
+    pub stop_answer : (number : ℕ) (cause : Cause) → r ≡ Ok (Stopped number cause) → Wrote t 0 (stop_text number (causes.number cause)) end t₁ × (end ≤ 128)
         → Wrote t 0 (orders_text sheet) end t₁ × (end ≤ 88011)
-    stop_answer number cause e w = (answered_by (stop_text number cause) (stop_text_lem (given sheet) number cause p (rw e at l)) w.0, omega (arith, w.1))
+    stop_answer number cause e w = (answered_by (stop_text number (causes.number cause)) (stop_text_lem (given sheet) number cause p (rw e at l)) w.0, omega (arith, w.1))
 
-    pub import_taken : (n : ℕ) → r ≡ NotImported n → ⊥
+    pub import_taken : (e : Refusal) → r ≡ Err e → ⊥
     import_taken n e = absurd (omega (arith, ap values (rw e at l.answered)))
 
 pub too_long : (sheet t : List ℕ) (end : ℕ) (t₁ : List ℕ) → 88011 < length sheet → Wrote t 0 too_long_text end t₁ × (end ≤ 128)

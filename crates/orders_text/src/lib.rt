@@ -5,14 +5,16 @@
 ghost use Rattle.std.specs.Prelude.{◌≡◌, ◌+◌, ◌≤◌, length};
 ghost use Rattle.permit.specs.Permission.{start_table};
 ghost use Rattle.lines.specs.Written.{Wrote};
+ghost use Rattle.imports.specs.Causes as causes;
 ghost use Rattle.imports.specs.Steps.{Leaves};
 ghost use Rattle.exports.specs.Export.{sheet_text};
 ghost use Rattle.orders_text.specs.OrdersText.{form_words, group_words, right_words, cause_words, stop_text, too_long_text, given, orders_text};
 
-use exports::Exported;
-use imports::{BAD_TEXT, Imported, NO_SUCH_GROUP};
+use imports::Imported;
+use imports::cause::Cause;
 use sheet_lines::SHEET_MOST;
 use tables::PHY_RECORD;
+use tables::refusal::Refusal;
 use wire::PhyNumber;
 
 fn put_form(text: &mut [u8], at: usize) -> usize
@@ -41,23 +43,21 @@ fn put_no_right(text: &mut [u8], at: usize) -> usize
 }
 
 // What is wrong with a line, in words.
-fn put_cause(cause: u8, text: &mut [u8], at: usize) -> usize
+fn put_cause(cause: Cause, text: &mut [u8], at: usize) -> usize
     requires { at + 64 ≤ length text.old }
-    ensures { Wrote text.old at (cause_words cause) result text.new × (result ≤ at + 64) }
+    ensures { Wrote text.old at (cause_words (causes.number cause)) result text.new × (result ≤ at + 64) }
 {
-    if cause == BAD_TEXT {
-        return put_form(text, at);
+    match cause {
+        Cause::BadText => put_form(text, at),
+        Cause::NoSuchGroup => put_no_such_group(text, at),
+        Cause::NoRight => put_no_right(text, at),
     }
-    if cause == NO_SUCH_GROUP {
-        return put_no_such_group(text, at);
-    }
-    put_no_right(text, at)
 }
 
 // The line at which an import stopped.
-pub fn put_stop(number: u32, cause: u8, text: &mut [u8]) -> usize
+pub fn put_stop(number: u32, cause: Cause, text: &mut [u8]) -> usize
     requires { 128 ≤ length text.old }
-    ensures { Wrote text.old 0 (stop_text number cause) result text.new × (result ≤ 128) }
+    ensures { Wrote text.old 0 (stop_text number (causes.number cause)) result text.new × (result ≤ 128) }
 {
     let a = lines::put_bytes(b"line ", text, 0);
     let b = lines::put_decimal(number as u64, text, a);
@@ -79,13 +79,13 @@ pub fn put_pairs(permissions: &[u8], text: &mut [u8]) -> usize
     ensures { Wrote text.old 0 (sheet_text 16 permissions.now) result text.new × (result ≤ 88011) }
 {
     match exports::export_sheet(permissions, text) {
-        Exported::Written(end) => end as usize,
-        Exported::Refused(_) => 0,
+        Ok(end) => end as usize,
+        Err(_) => 0,
     }
 }
 
 // The sheet's orders, into a fresh table, as from phy 0 of the bench rack.
-pub fn give_orders(sheet: &[u8], permissions: &mut [u8]) -> Imported
+pub fn give_orders(sheet: &[u8], permissions: &mut [u8]) -> Result<Imported, Refusal>
     requires { (length sheet.now ≤ 88011) × (length permissions.old ≡ 2048) }
     ensures { Leaves 16 (given sheet.now) (start_table 16) result permissions.new }
 {
@@ -100,9 +100,9 @@ fn put_answer(sheet: &[u8], permissions: &mut [u8], text: &mut [u8]) -> usize
     ensures { Wrote text.old 0 (orders_text sheet.now) result text.new × (result ≤ 88011) }
 {
     match give_orders(sheet, permissions) {
-        Imported::Whole(_) => put_pairs(permissions, text),
-        Imported::Stopped(number, cause) => put_stop(number, cause, text),
-        Imported::Refused(_) => 0,
+        Ok(Imported::Whole(_)) => put_pairs(permissions, text),
+        Ok(Imported::Stopped(number, cause)) => put_stop(number, cause, text),
+        Err(_) => 0,
     }
 }
 

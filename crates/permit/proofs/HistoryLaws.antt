@@ -6,7 +6,6 @@ use mathlib.Core.List.{List, [], ◌∷◌, ◌++◌}
 use mathlib.Core.Logic.{◌⊎◌, inl, inr}
 use Prim.Native.Nat.{ℕ, zero, suc, ◌+◌, ◌-◌, ◌≤◌, ◌<◌}
 use native.Mathlib.Numerals.{add-one}
-use native.Mathlib.Nat.{sub-zero}
 use native.Mathlib.Omega.{arith}
 use borrow.Author.Tests.{ne_eqb}
 use lib.Dec.{eqb}
@@ -135,9 +134,6 @@ pub record BatchLeft (w : ℕ) (rows : List ℕ) (start k : ℕ) (t₀ t : List 
   pub rest : apply w (batch_orders w rows start i (k - i)) t ≡ apply w (batch_orders w rows start 0 k) t₀
 
 module _ (w : ℕ) (rows : List ℕ) (start k : ℕ) where
-  pub batch-start : (t : List ℕ) → length t ≡ table_size w → BatchLeft w rows start k t t 0
-  batch-start t l = record { up_to = omega arith; sized = l; rest = rw (sub-zero k) }
-
   pub batch_again : (t₀ t t' : List ℕ) (i : ℕ) → i < k → t' ≡ apply w (row_orders (P 16 rows i) (start + i) 2 (groups w - 2)) t
       → BatchLeft w rows start k t₀ t i → BatchLeft w rows start k t₀ t' (i + 1)
   batch_again t₀ t t' i h e l = record {

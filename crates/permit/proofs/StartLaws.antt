@@ -49,9 +49,6 @@ module _ (f : ℕ → ℕ) (lo : ℕ) (t : List ℕ) where
       go i p (no n) (yes l) = rw (get_or-set_other u at i x 0 n, p, lt-ltb i at l, lt-ltb i (at + 1) (omega arith))
       go i p (no n) (no l) = rw (get_or-set_other u at i x 0 n, p, le-ltb i at (omega arith), le-ltb i (at + 1) (omega arith))
 
-  pub between_done : (u : List ℕ) (at to : ℕ) → to ≤ at → at ≤ to → Between f lo t u at → Between f lo t u to
-  between_done u at to l h s = let e : at ≡ to = omega arith in rw (← e) s
-
   -- what stands in a written byte, and in any other
   pub between_in : (u : List ℕ) (at i : ℕ) → Between f lo t u at → lo ≤ i → i < at → get_or u i 0 ≡ f i
   between_in u at i s l h = s.says i (omega (arith, s.up_to)) ∙ rw (le-leb lo i l, lt-ltb i at h)

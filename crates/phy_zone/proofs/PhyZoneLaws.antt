@@ -4,7 +4,6 @@ use mathlib.Core.Path.{◌≡◌, refl, sym, ap, ◌∙◌, subst}
 use mathlib.Core.Bool.{Bool, true, false, not}
 use mathlib.Core.List.{List, [], ◌∷◌, ◌++◌}
 use Prim.Native.Nat.{ℕ, zero, suc, ◌+◌, ◌-◌, ◌*◌, ◌/◌, ◌%◌, ◌≤◌, ◌<◌}
-use native.Mathlib.Nat.{sub-zero}
 use native.Mathlib.Numerals.{add-one}
 use native.Mathlib.Decide.{ℕ_discrete}
 use native.Mathlib.Omega.{arith}
@@ -43,9 +42,6 @@ pub ruleset soundness = (sound_high, sound_outside, sound_inside)
 pub record Judged (w : ℕ) (request : List ℕ) (k i : ℕ) : Type 0 where
   pub rest : all_sound w request 0 k ≡ all_sound w request i (k - i)
 
-pub judged_start : (w : ℕ) (request : List ℕ) (k : ℕ) → Judged w request k 0
-judged_start w request k = record { rest = rw (sub-zero k) }
-
 module _ (w : ℕ) (request : List ℕ) (k i : ℕ) (v : Bool) (h : i < k) (e : v ≡ sound w (first request i) (group request i)) (j : Judged w request k i) where
   pub judged_off : not v ≡ true → false ≡ all_sound w request 0 k
   unfolding all_sound
@@ -63,9 +59,6 @@ judged_end w request k i h j = let z : k - i ≡ 0 = omega arith in sym (j.rest 
 pub record Written (phys₀ request : List ℕ) (start k : ℕ) (phys : List ℕ) (i : ℕ) : Type 0 where
   pub same : length phys ≡ length phys₀
   pub rest : configured phys₀ request start 0 k ≡ configured phys request start i (k - i)
-
-pub written_start : (phys request : List ℕ) (start k : ℕ) → Written phys request start k phys 0
-written_start phys request start k = record { same = refl; rest = rw (sub-zero k) }
 
 pub written_again : (phys₀ request : List ℕ) (start k : ℕ) (phys : List ℕ) (i : ℕ) (phys₁ : List ℕ) → i < k
     → phys₁ ≡ zoned phys (start + i) (first request i) (group request i)

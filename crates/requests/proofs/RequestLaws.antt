@@ -2,21 +2,18 @@
 -- Assumes nothing.
 use mathlib.Core.Path.{◌≡◌, sym, ap, ◌∙◌}
 use mathlib.Core.Bool.{Bool, true, false}
-use mathlib.Core.List.{List, [], ◌∷◌, ◌++◌}
-use Prim.Native.Nat.{ℕ, zero, suc, ◌≤◌}
-use lib.ListN.{length, drop, set}
-use lib.Seq.{sets-eq}
-use Rattle.std.proofs.Common.{Option, Some, None, Result, Err}
+use mathlib.Core.List.{List}
+use Prim.Native.Nat.{ℕ, zero, suc}
+use Rattle.std.proofs.Common.{Option, Some, Result, Err}
 use Rattle.std.specs.Prelude.{⊤}
 use Rattle.wire.specs.declared.ZoneGroup.{ZoneGroup}
 use Rattle.wire.specs.Groups.{outside_group}
-use Rattle.permit.specs.Permission.{reaches}
 use Rattle.tables.specs.Phys.{phy_group, participating}
 use Rattle.requests.specs.declared.FunctionResult.{FunctionResult}
 use Rattle.requests.specs.declared.FunctionResult.TheVariants.{Accepted}
 use Rattle.requests.specs.Results.{number}
 use Rattle.requests.proofs.ResultLaws.{number_down}
-use Rattle.requests.specs.Requests.{smp_source, source_reaches, Reply, turned_down, replied, Leaves}
+use Rattle.requests.specs.Requests.{smp_source, Reply, turned_down, replied, Leaves}
 
 -- who is speaking, by each way out of the function that answers it
 module _ (phys : List ℕ) (phy carried : ℕ) (p : Bool) (e : p ≡ participating phys phy) where
@@ -27,18 +24,6 @@ module _ (phys : List ℕ) (phy carried : ℕ) (p : Bool) (e : p ≡ participati
   pub source_own : (g : ZoneGroup) → p ≡ false → g.0 ≡ phy_group phys phy → Some g ≡ smp_source phys phy carried
   unfolding smp_source
   source_own g t eg = rw (sym e ∙ t) (ap (λ (x : ℕ). Some (record { 0 = x })) eg)
-
--- whom the group that is speaking reaches: o is what was asked for, v what it should be
-module _ (w : ℕ) (permissions : List ℕ) (o v : Option ZoneGroup) (b : ℕ) (e : o ≡ v) where
-  pub reaches_none : o ≡ None → false ≡ source_reaches w permissions v b
-  reaches_none n = rw (sym e ∙ n)
-
-  pub reaches-group : (g : ZoneGroup) (r : Bool) → o ≡ Some g → r ≡ reaches w permissions g.0 b → r ≡ source_reaches w permissions v b
-  reaches-group g r s er = rw (sym e ∙ s) er
-
--- four bytes at the head of a buffer
-pub head_set : (l : List ℕ) (a b c d : ℕ) → 4 ≤ length l → set (set (set (set l 0 a) 1 b) 2 c) 3 d ≡ (a ∷ b ∷ c ∷ d ∷ []) ++ drop 4 l
-head_set l a b c d h = sets-eq (a ∷ b ∷ c ∷ d ∷ []) l 0 h
 
 -- ---- the two ends of a rule, with n the first result of its checks
 module _ (n : ℕ) (accepted : Reply) (phys permissions : List ℕ) where

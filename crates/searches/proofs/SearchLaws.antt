@@ -4,10 +4,9 @@ use mathlib.Core.Path.{◌≡◌, refl, sym, ap, subst, ◌∙◌}
 use mathlib.Core.Bool.{Bool, true, false, cond, not, ◌&&◌, and-false}
 use mathlib.Core.List.{List}
 use Prim.Native.Nat.{ℕ, zero, suc, ◌+◌, ◌-◌, ◌*◌, ◌<◌, ◌≤◌}
-use native.Mathlib.Nat.{sub-zero}
 use native.Mathlib.Numerals.{add-one}
 use native.Mathlib.Omega.{arith}
-use borrow.Author.Tests.{ltb-true, lt-ltb, le-ltb, eq-eqb, ne_eqb, not-true, not-false}
+use borrow.Author.Tests.{ltb-true, eq-eqb, ne_eqb, not-true, not-false}
 use lib.Dec.{eqb}
 use lib.ListN.{get_or}
 use Rattle.wire.specs.declared.PhyNumber.{PhyNumber}
@@ -38,9 +37,6 @@ pub record Agree (s : List ℕ) (i : ℕ) (t : List ℕ) (j k : ℕ) : Type 0 wh
   pub within : k ≤ 8
   pub rest : same_bytes 8 s i t j ≡ same_bytes k s i t j
 
-pub agree_start : (s : List ℕ) (i : ℕ) (t : List ℕ) (j : ℕ) → Agree s i t j 8
-agree_start s i t j = record { some = omega arith; within = omega arith; rest = refl }
-
 module _ (s : List ℕ) (i : ℕ) (t : List ℕ) (j k : ℕ) (a : Agree s i t j k) where
   same_more : get_or s (i + (k - 1)) 0 ≡ get_or t (j + (k - 1)) 0 → same_bytes 8 s i t j ≡ same_bytes (k - 1) s i t j
   unfolding same_bytes
@@ -67,9 +63,6 @@ module _ (s : List ℕ) (i : ℕ) (t : List ℕ) (j k : ℕ) (a : Agree s i t j 
 pub record PhysLeft (phys frame : List ℕ) (n i : ℕ) : Type 0 where
   pub within : i ≤ n
   pub rest : find_phy phys frame 0 n ≡ find_phy phys frame i (n - i)
-
-pub phys_start : (phys frame : List ℕ) (n : ℕ) → PhysLeft phys frame n 0
-phys_start phys frame n = record { within = omega arith; rest = rw sub-zero }
 
 pub phys_none : (phys frame : List ℕ) (n i : ℕ) → PhysLeft phys frame n i → i ≡ n → None ≡ find_phy phys frame 0 n
 unfolding find_phy
@@ -104,13 +97,6 @@ module _ (phys frame : List ℕ) (n i j : ℕ) (w : PhysLeft phys frame n i) (h 
       ∙ ap (λ (m : ℕ). found m (phy_group phys m)) q
       ∙ sym (w.rest ∙ ap (find_phy phys frame i) (left n i (omega arith)) ∙ rw (f, same_all phys (phy_record * i + 4) frame 4 k a e z))
 
--- ---- is_usable
-pub unusable : (phys : List ℕ) (p : ℕ) → phy_count phys ≤ p → false ≡ usable phys p
-unusable phys p h = rw (le-ltb _ _ h)
-
-pub usable-ready : (phys : List ℕ) (p : ℕ) (r : Bool) → p < phy_count phys → r ≡ ready phys p → r ≡ usable phys p
-usable-ready phys p r h e = rw (lt-ltb _ _ h) e
-
 -- ---- whether a record fits or not
 pub either_way : (b : Bool) (x : Option Destination) → cond b x x ≡ x
 either_way true x = refl
@@ -120,9 +106,6 @@ either_way false x = refl
 pub record RoutesLeft (phys routes frame : List ℕ) (n i : ℕ) : Type 0 where
   pub within : i ≤ n
   pub rest : find_route phys routes frame 0 n ≡ find_route phys routes frame i (n - i)
-
-pub routes_start : (phys routes frame : List ℕ) (n : ℕ) → RoutesLeft phys routes frame n 0
-routes_start phys routes frame n = record { within = omega arith; rest = rw sub-zero }
 
 pub routes_none : (phys routes frame : List ℕ) (n i : ℕ) → RoutesLeft phys routes frame n i → i ≡ n → None ≡ find_route phys routes frame 0 n
 unfolding find_route

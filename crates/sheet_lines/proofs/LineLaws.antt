@@ -12,10 +12,9 @@ use lib.Dec.{eqb, ltb, leb}
 use lib.ListN.{length, drop, get_or, drop_of_length-le}
 use lib.Seq.{drop-cons}
 use Rattle.sheet_lines.specs.Line.{is_figure, Field, found, none, figures, number, before_comma, before_lf, before_end, switch, line, bad, line_of}
+use Rattle.std.specs.Prelude.{Option, Some, None}
 use Rattle.sheet_lines.specs.Places.{capped, Reads, ReadAs, LineAt}
-use Rattle.sheet_lines.specs.Short.{ShortAs}
-use Rattle.sheet_lines.specs.declared.Read.{Read}
-use Rattle.sheet_lines.specs.declared.Read.TheVariants.{Number, Nothing}
+use Rattle.sheet_lines.specs.declared.Scanned.{Scanned}
 
 -- ---- figures
 pub figure_low : (c : ℕ) → c < 48 → false ≡ is_figure c
@@ -97,15 +96,15 @@ scan_stop s at first value i f h e n r = record {
   within = r.within;
 }
 
-pub scan_out : (s : List ℕ) (at first value i : ℕ) → length s ≤ i → Scanning s at first value i → Reads (figures first (drop at s)) s at value i
-scan_out s at first value i h r = record {
+pub scan_out : (s : List ℕ) (at first value i : ℕ) → length s ≤ i → Scanning s at first value i → Reads (figures first (drop at s)) s at value (length s)
+scan_out s at first value i h r = let w = r.within in let l = r.later in let e : i ≡ length s = omega arith in record {
   exact = r.exact;
-  behind = drop i s;
-  reads = r.left ∙ figures_out s i r.exact h;
+  behind = drop (length s) s;
+  reads = r.left ∙ figures_out s i r.exact h ∙ ap (λ (m : ℕ). found r.exact (drop m s)) e;
   caps = r.caps;
   follows = refl;
-  later = r.later;
-  within = r.within;
+  later = omega arith;
+  within = omega arith;
 }
 
 -- ---- a number
@@ -145,42 +144,31 @@ number_more s at f first value next h e n z d r = record {
 }
 
 -- ---- a number and its comma
-comma_none : (f : Field) → f ≡ none → before_comma f ≡ none
-unfolding before_comma
-comma_none f e = rw e
-
 comma_read : (f : Field) (v c : ℕ) (rest : List ℕ) → f ≡ found v (c ∷ rest) → c ≡ 44 → before_comma f ≡ found v rest
 unfolding before_comma
 comma_read f v c rest e n = rw (e, eq-eqb c 44 n)
 
-module _ (f : Field) (s : List ℕ) (from : ℕ) where
-  -- what the match bound
-  pub bound : (r : Read) (x next : ℕ) → ReadAs f s from r → r ≡ Number x next → Reads f s from x next
-  bound r x next h e = rw e at h
+pub field_none : (f : Field) → f ≡ none → before_comma f ≡ none
+unfolding before_comma
+field_none f e = rw e
 
-  pub unbound : (r : Read) → ReadAs f s from r → r ≡ Nothing → f ≡ none
-  unbound r h e = rw e at h
+module _ (f : Field) (s : List ℕ) (from x next : ℕ) (q : Reads f s from x next) where
+  comma_at : next < length s → f ≡ found q.exact (get_or s next 0 ∷ drop (next + 1) s)
+  comma_at h = q.reads ∙ ap (found q.exact) (sym q.follows ∙ text_at s next h)
 
-  pub field_none : (r : Read) → ReadAs f s from r → r ≡ Nothing → before_comma f ≡ none
-  field_none r h e = comma_none f (unbound r h e)
-
-  comma_at : (x next : ℕ) (q : Reads f s from x next) → next < length s → f ≡ found q.exact (get_or s next 0 ∷ drop (next + 1) s)
-  comma_at x next q h = q.reads ∙ ap (found q.exact) (sym q.follows ∙ text_at s next h)
-
-  pub field_out : (r : Read) (x next : ℕ) → ReadAs f s from r → r ≡ Number x next → length s ≤ next → before_comma f ≡ none
+  pub field_out : length s ≤ next → before_comma f ≡ none
   unfolding before_comma
-  field_out r x next h e l = let q = bound r x next h e in rw (q.reads, sym q.follows ∙ text_out s next l)
+  field_out l = rw (q.reads, sym q.follows ∙ text_out s next l)
 
-  pub field_other : (r : Read) (x next : ℕ) → ReadAs f s from r → r ≡ Number x next → next < length s → (get_or s next 0 ≡ 44 → ⊥) → before_comma f ≡ none
+  pub field_other : next < length s → (get_or s next 0 ≡ 44 → ⊥) → before_comma f ≡ none
   unfolding before_comma
-  field_other r x next h e l n = rw (comma_at x next (bound r x next h e) l, ne_eqb (get_or s next 0) 44 n)
+  field_other l n = rw (comma_at l, ne_eqb (get_or s next 0) 44 n)
 
-  pub field_read : (r : Read) (x next : ℕ) → ReadAs f s from r → r ≡ Number x next → next < length s → get_or s next 0 ≡ 44
-      → Reads (before_comma f) s from x (next + 1)
-  field_read r x next h e l n = let q = bound r x next h e in let k = q.later in record {
+  pub field_read : next < length s → get_or s next 0 ≡ 44 → Reads (before_comma f) s from x (next + 1)
+  field_read l n = let k = q.later in record {
     exact = q.exact;
     behind = drop (next + 1) s;
-    reads = comma_read f q.exact (get_or s next 0) (drop (next + 1) s) (comma_at x next q l) n;
+    reads = comma_read f q.exact (get_or s next 0) (drop (next + 1) s) (comma_at l) n;
     caps = q.caps;
     follows = refl;
     later = omega arith;
@@ -236,9 +224,8 @@ module _ (s : List ℕ) (at v : ℕ) where
   }
 
 -- ---- the last field
-sooner : (f g : Field) (s : List ℕ) (from from' : ℕ) (r : Read) → g ≡ f → from' ≤ from → ReadAs f s from r → ReadAs g s from' r
-sooner f g s from from' Nothing e l h = e ∙ h
-sooner f g s from from' (Number x next) e l h = let k = h.later in record {
+sooner_read : (f g : Field) (s : List ℕ) (from from' x next : ℕ) → g ≡ f → from' ≤ from → Reads f s from x next → Reads g s from' x next
+sooner_read f g s from from' x next e l h = let k = h.later in record {
   exact = h.exact;
   behind = h.behind;
   reads = e ∙ h.reads;
@@ -247,6 +234,10 @@ sooner f g s from from' (Number x next) e l h = let k = h.later in record {
   later = omega arith;
   within = h.within;
 }
+
+sooner : (f g : Field) (s : List ℕ) (from from' : ℕ) (r : Option Scanned) → g ≡ f → from' ≤ from → ReadAs f s from r → ReadAs g s from' r
+sooner f g s from from' None e l h = e ∙ h
+sooner f g s from from' (Some r) e l h = sooner_read f g s from from' r.value r.next e l h
 
 module _ (s : List ℕ) (at : ℕ) where
   pub switch_out : length s ≤ at → switch (drop at s) ≡ none
@@ -265,10 +256,10 @@ module _ (s : List ℕ) (at : ℕ) where
   unfolding switch
   switch_other h n m = rw (text_at s at h, ne_eqb (get_or s at 0) 48 n, ne_eqb (get_or s at 0) 49 m)
 
-  pub switched_0 : (r : Read) → at < length s → get_or s at 0 ≡ 48 → ReadAs (before_end 0 (drop (at + 1) s)) s (at + 1) r → ReadAs (switch (drop at s)) s at r
+  pub switched_0 : (r : Option Scanned) → at < length s → get_or s at 0 ≡ 48 → ReadAs (before_end 0 (drop (at + 1) s)) s (at + 1) r → ReadAs (switch (drop at s)) s at r
   switched_0 r h e q = sooner (before_end 0 (drop (at + 1) s)) (switch (drop at s)) s (at + 1) at r (switch_0 h e) (omega arith) q
 
-  pub switched_1 : (r : Read) → at < length s → (get_or s at 0 ≡ 48 → ⊥) → get_or s at 0 ≡ 49 → ReadAs (before_end 1 (drop (at + 1) s)) s (at + 1) r
+  pub switched_1 : (r : Option Scanned) → at < length s → (get_or s at 0 ≡ 48 → ⊥) → get_or s at 0 ≡ 49 → ReadAs (before_end 1 (drop (at + 1) s)) s (at + 1) r
       → ReadAs (switch (drop at s)) s at r
   switched_1 r h n e q = sooner (before_end 1 (drop (at + 1) s)) (switch (drop at s)) s (at + 1) at r (switch_1 h n e) (omega arith) q
 
@@ -286,37 +277,22 @@ on_by v w e = go (dec_lt w 128)
     go (no n) = ne_eqb w 1 (λ d. omega arith) ∙ sym (ne_eqb v 1 (λ d. omega arith))
 
 module _ (s : List ℕ) (at : ℕ) where
-  pub line_none : (r : Read) → ReadAs (before_comma (number (drop at s))) s (at + 1) r → r ≡ Nothing → line_of (drop at s) ≡ bad
+  pub line_none : before_comma (number (drop at s)) ≡ none → line_of (drop at s) ≡ bad
   unfolding line_of
-  line_none r h e = rw (unbound (before_comma (number (drop at s))) s (at + 1) r h e)
+  line_none e = rw e
 
-  module _ (r : Read) (x second : ℕ) (h : ReadAs (before_comma (number (drop at s))) s (at + 1) r) (e : r ≡ Number x second) where
-    first_read : Reads (before_comma (number (drop at s))) s (at + 1) x second
-    first_read = bound (before_comma (number (drop at s))) s (at + 1) r x second h e
-
-    pub line_none_2 : (q : Read) → ReadAs (before_comma (number (drop second s))) s (second + 1) q → q ≡ Nothing → line_of (drop at s) ≡ bad
+  module _ (x second : ℕ) (f : Reads (before_comma (number (drop at s))) s (at + 1) x second) where
+    pub line_none_2 : before_comma (number (drop second s)) ≡ none → line_of (drop at s) ≡ bad
     unfolding line_of
-    line_none_2 q k z =
-        let f = first_read in
-        rw (f.reads, ← f.follows, unbound (before_comma (number (drop second s))) s (second + 1) q k z)
+    line_none_2 e = rw (f.reads, ← f.follows, e)
 
-    module _ (q : Read) (y third : ℕ) (k : ReadAs (before_comma (number (drop second s))) s (second + 1) q) (z : q ≡ Number y third) where
-      second_read : Reads (before_comma (number (drop second s))) s (second + 1) y third
-      second_read = bound (before_comma (number (drop second s))) s (second + 1) q y third k z
-
-      pub line_none_3 : (p : Read) → ReadAs (switch (drop third s)) s third p → p ≡ Nothing → line_of (drop at s) ≡ bad
+    module _ (y third : ℕ) (g : Reads (before_comma (number (drop second s))) s (second + 1) y third) where
+      pub line_none_3 : switch (drop third s) ≡ none → line_of (drop at s) ≡ bad
       unfolding line_of
-      line_none_3 p j w =
-          let f = first_read in
-          let g = second_read in
-          rw (f.reads, ← f.follows, g.reads, ← g.follows, unbound (switch (drop third s)) s third p j w)
+      line_none_3 e = rw (f.reads, ← f.follows, g.reads, ← g.follows, e)
 
-      pub line_read : (p : Read) (v next : ℕ) → ReadAs (switch (drop third s)) s third p → p ≡ Number v next
-          → LineAt s at x y (eqb v 1) next
-      line_read p v next j w =
-          let f = first_read in
-          let g = second_read in
-          let u = bound (switch (drop third s)) s third p v next j w in
+      pub line_read : (v next : ℕ) → Reads (switch (drop third s)) s third v next → LineAt s at x y (eqb v 1) next
+      line_read v next u =
           let l₁ = f.later in
           let l₂ = g.later in
           let l₃ = u.later in
@@ -335,35 +311,34 @@ module _ (s : List ℕ) (at : ℕ) where
           }
 
 -- ---- the short way: a number of up to three figures
-module _ (s : List ℕ) (at one : ℕ) (f : Bool) (h : at + 4 ≤ length s) (e : f ≡ is_figure (get_or s at 0)) (n : not f ≡ false) (z : 49 ≤ get_or s at 0)
+module _ (s : List ℕ) (at one : ℕ) (h : at + 4 ≤ length s) (e : true ≡ is_figure (get_or s at 0)) (z : 49 ≤ get_or s at 0)
     (o : (one ≡ get_or s at 0 - 48) × (one < 10)) where
   -- the comma ends the figures, and the number
   short_read : (value i : ℕ) → i < length s → get_or s i 0 ≡ 44 → Scanning s (at + 1) one value i
       → Reads (before_comma (number (drop at s))) s (at + 1) value (i + 1)
   short_read value i l m q =
-      field_read (number (drop at s)) s (at + 1) (Number value i) value i
-      (number_more s at f one value i (omega arith) e n (λ w. omega arith) o
-      (scan_stop s (at + 1) one value i false l (figure_low (get_or s i 0) (omega arith)) refl q)) refl l m
+      field_read (number (drop at s)) s (at + 1) value i
+      (number_more s at true one value i (omega arith) e refl (λ w. omega arith) o
+      (scan_stop s (at + 1) one value i false l (figure_low (get_or s i 0) (omega arith)) refl q)) l m
 
   scanned_one : Scanning s (at + 1) one one (at + 1)
   scanned_one = scan_start s (at + 1) one (omega arith) o.1
 
-  pub short_one : get_or s (at + 1) 0 ≡ 44 → ShortAs (before_comma (number (drop at s))) s (at + 1) (at + 4) (Number one (at + 1 + 1))
+  pub short_one : get_or s (at + 1) 0 ≡ 44 → Reads (before_comma (number (drop at s))) s (at + 1) one (at + 1 + 1) × (at + 1 + 1 ≤ at + 4)
   short_one m = (short_read one (at + 1) (omega arith) m scanned_one, omega arith)
 
-  module _ (g : Bool) (two : ℕ) (k : g ≡ is_figure (get_or s (at + 1) 0)) (p : not g ≡ false) (t : two ≡ capped (one * 10 + (get_or s (at + 1) 0 - 48))) where
+  module _ (two : ℕ) (k : true ≡ is_figure (get_or s (at + 1) 0)) (t : two ≡ capped (one * 10 + (get_or s (at + 1) 0 - 48))) where
     scanned_two : Scanning s (at + 1) one two (at + 1 + 1)
-    scanned_two = scan_again s (at + 1) one one two (at + 1) g (omega arith) k p t scanned_one
+    scanned_two = scan_again s (at + 1) one one two (at + 1) true (omega arith) k refl t scanned_one
 
-    pub short_two : get_or s (at + 1 + 1) 0 ≡ 44 → ShortAs (before_comma (number (drop at s))) s (at + 1) (at + 4) (Number two (at + 1 + 1 + 1))
+    pub short_two : get_or s (at + 1 + 1) 0 ≡ 44 → Reads (before_comma (number (drop at s))) s (at + 1) two (at + 1 + 1 + 1) × (at + 1 + 1 + 1 ≤ at + 4)
     short_two m = (short_read two (at + 1 + 1) (omega arith) m scanned_two, omega arith)
 
-    pub short_three : (j : Bool) (three : ℕ) → j ≡ is_figure (get_or s (at + 1 + 1) 0) → not j ≡ false
-        → three ≡ capped (two * 10 + (get_or s (at + 1 + 1) 0 - 48)) → get_or s (at + 1 + 1 + 1) 0 ≡ 44
-        → ShortAs (before_comma (number (drop at s))) s (at + 1) (at + 4) (Number three (at + 1 + 1 + 1 + 1))
-    short_three j three y w u m = (
+    pub short_three : (three : ℕ) → true ≡ is_figure (get_or s (at + 1 + 1) 0) → three ≡ capped (two * 10 + (get_or s (at + 1 + 1) 0 - 48)) → get_or s (at + 1 + 1 + 1) 0 ≡ 44
+        → Reads (before_comma (number (drop at s))) s (at + 1) three (at + 1 + 1 + 1 + 1) × (at + 1 + 1 + 1 + 1 ≤ at + 4)
+    short_three three y u m = (
       short_read three (at + 1 + 1 + 1) (omega arith) m
-          (scan_again s (at + 1) one two three (at + 1 + 1) j (omega arith) y w u scanned_two),
+          (scan_again s (at + 1) one two three (at + 1 + 1) true (omega arith) y refl u scanned_two),
       omega arith,
     )
 
@@ -377,46 +352,22 @@ module _ (s : List ℕ) (at : ℕ) (h : at + 3 ≤ length s) (l : 48 ≤ get_or 
       go (yes k) = let d : get_or s at 0 ≡ 48 = omega arith in switch_0 s at (omega arith) d ∙ rw d
       go (no k) = let d : get_or s at 0 ≡ 49 = omega arith in switch_1 s at (omega arith) (λ w. omega arith) d ∙ rw d
 
-  pub short_lf : get_or s (at + 1) 0 ≡ 10 → ShortAs (switch (drop at s)) s at (at + 3) (Number (get_or s at 0 - 48) (at + 1 + 1))
+  pub short_lf : get_or s (at + 1) 0 ≡ 10 → Reads (switch (drop at s)) s at (get_or s at 0 - 48) (at + 1 + 1) × (at + 1 + 1 ≤ at + 3)
   short_lf e = (
-    sooner (before_end (get_or s at 0 - 48) (drop (at + 1) s)) (switch (drop at s)) s (at + 1) at (Number (get_or s at 0 - 48) (at + 1 + 1)) switch_by
+    sooner_read (before_end (get_or s at 0 - 48) (drop (at + 1) s)) (switch (drop at s)) s (at + 1) at (get_or s at 0 - 48) (at + 1 + 1) switch_by
         (omega arith) (end_lf s (at + 1) (get_or s at 0 - 48) (omega arith) (omega arith) e),
     omega arith,
   )
 
   pub short_crlf : get_or s (at + 1) 0 ≡ 13 → get_or s (at + 1 + 1) 0 ≡ 10
-      → ShortAs (switch (drop at s)) s at (at + 3) (Number (get_or s at 0 - 48) (at + 1 + 1 + 1))
+      → Reads (switch (drop at s)) s at (get_or s at 0 - 48) (at + 1 + 1 + 1) × (at + 1 + 1 + 1 ≤ at + 3)
   short_crlf e k = (
-    sooner (before_end (get_or s at 0 - 48) (drop (at + 1) s)) (switch (drop at s)) s (at + 1) at (Number (get_or s at 0 - 48) (at + 1 + 1 + 1)) switch_by
+    sooner_read (before_end (get_or s at 0 - 48) (drop (at + 1) s)) (switch (drop at s)) s (at + 1) at (get_or s at 0 - 48) (at + 1 + 1 + 1) switch_by
         (omega arith) (end_crlf s (at + 1) (get_or s at 0 - 48) (omega arith) (omega arith) (λ w. omega arith) e (omega arith) k),
     omega arith,
   )
 
--- ---- the short way: the line
-
--- what the match bound
-told : (f : Field) (s : List ℕ) (from most : ℕ) (r : Read) (x next : ℕ) → ShortAs f s from most r → r ≡ Number x next → Reads f s from x next × (next ≤ most)
-told f s from most r x next h e = rw e at h
-
+-- ---- the line's start, past the sheet's end
 pub line_out : (s : List ℕ) (at : ℕ) → length s ≤ at → line_of (drop at s) ≡ bad
 unfolding line_of number before_comma
 line_out s at h = rw (text_out s at h)
-
-module _ (s : List ℕ) (at : ℕ) (l : 11 ≤ length s - at) (r : Read) (x second : ℕ) (h : ShortAs (before_comma (number (drop at s))) s (at + 1) (at + 4) r)
-    (e : r ≡ Number x second) where
-  -- what is read so far leaves the room that the next step asks for
-  pub room_second : second + 4 ≤ length s
-  room_second = let k = (told (before_comma (number (drop at s))) s (at + 1) (at + 4) r x second h e).1 in omega arith
-
-  module _ (q : Read) (y third : ℕ) (k : ShortAs (before_comma (number (drop second s))) s (second + 1) (second + 4) q) (z : q ≡ Number y third) where
-    pub room_third : third + 3 ≤ length s
-    room_third =
-        let i = (told (before_comma (number (drop at s))) s (at + 1) (at + 4) r x second h e).1 in
-        let j = (told (before_comma (number (drop second s))) s (second + 1) (second + 4) q y third k z).1 in
-        omega arith
-
-    pub line_short : (p : Read) (v next : ℕ) → ShortAs (switch (drop third s)) s third (third + 3) p → p ≡ Number v next → LineAt s at x y (eqb v 1) next
-    line_short p v next j w =
-        line_read s at (Number x second) x second (told (before_comma (number (drop at s))) s (at + 1) (at + 4) r x second h e).0 refl
-        (Number y third) y third (told (before_comma (number (drop second s))) s (second + 1) (second + 4) q y third k z).0 refl
-        (Number v next) v next (told (switch (drop third s)) s third (third + 3) p v next j w).0 refl

@@ -1,10 +1,8 @@
 -- What the line reader's steps say of a place in the sheet.
-use Rattle.std.specs.Prelude.{◌≡◌, Bool, List, ℕ, ◌≤◌, ◌<◌, min, length, drop}
+use Rattle.std.specs.Prelude.{◌≡◌, Bool, List, ℕ, ◌≤◌, ◌<◌, min, length, drop, Option, Some, None}
 use Rattle.sheet_lines.specs.Line.{Field, found, none, line, bad, line_of}
-use Rattle.sheet_lines.specs.declared.Read.{Read}
-use Rattle.sheet_lines.specs.declared.Read.TheVariants.{Number, Nothing}
-use Rattle.sheet_lines.specs.declared.LineRead.{LineRead}
-use Rattle.sheet_lines.specs.declared.LineRead.TheVariants.{Line as LineOf, Bad}
+use Rattle.sheet_lines.specs.declared.Scanned.{Scanned}
+use Rattle.sheet_lines.specs.declared.SheetLine.{SheetLine}
 
 -- a number as the code keeps it: any above 127 is too large on every shelf, and 128 stands for it
 abbrev pub capped : ℕ → ℕ
@@ -20,9 +18,9 @@ pub record Reads (f : Field) (s : List ℕ) (from x next : ℕ) : Type 0 where
   pub later : from ≤ next
   pub within : next ≤ length s
 
-abbrev pub ReadAs : Field → List ℕ → ℕ → Read → Type 0
-ReadAs f s from (Number x next) = Reads f s from x next
-ReadAs f s from Nothing = f ≡ none
+abbrev pub ReadAs : Field → List ℕ → ℕ → Option Scanned → Type 0
+ReadAs f s from (Some r) = Reads f s from r.value r.next
+ReadAs f s from None = f ≡ none
 
 -- the line at `at`
 pub record LineAt (s : List ℕ) (at x y : ℕ) (v : Bool) (next : ℕ) : Type 0 where
@@ -35,6 +33,6 @@ pub record LineAt (s : List ℕ) (at x y : ℕ) (v : Bool) (next : ℕ) : Type 0
   pub later : at < next
   pub within : next ≤ length s
 
-abbrev pub LineAs : List ℕ → ℕ → LineRead → Type 0
-LineAs s at (LineOf x y v next) = LineAt s at x y v next
-LineAs s at Bad = line_of (drop at s) ≡ bad
+abbrev pub LineAs : List ℕ → ℕ → Option SheetLine → Type 0
+LineAs s at (Some l) = LineAt s at l.a l.b l.on l.next
+LineAs s at None = line_of (drop at s) ≡ bad

@@ -8,15 +8,16 @@ use Prim.Native.Nat.{ℕ, zero, suc, ◌%◌}
 use native.Mathlib.Omega.{arith}
 use borrow.Author.Tests.{eqb-false}
 use lib.ListN.{get_or}
+use Rattle.std.proofs.Common.{Result, Ok}
+use Rattle.tables.specs.declared.refusal.Refusal.{Refusal}
 use Rattle.wire.specs.declared.PhyNumber.{PhyNumber}
 use Rattle.wire.specs.Bits.{bit}
 use Rattle.wire.specs.PhySet.{member, tally, phys_in}
 use Rattle.tables.specs.Outcome.{refusal, answer, out, outcome}
 use Rattle.tables.specs.Phys.{empty_set}
+use Rattle.opens.specs.declared.Opened.{Opened}
 use Rattle.opens.specs.declared.Opened.TheVariants.{Forward}
-use Rattle.searches.specs.Search.{search}
 use Rattle.opens.specs.Open.{opened_as, opened, open_out}
-use Rattle.opens.proofs.OpenSteps.{judged}
 use Rattle.opens.proofs.Unique.{one_answer}
 use Rattle.permit.specs.Permission.{reaches}
 use Rattle.requests.specs.Requests.{source_reaches, Reply, turned_down}
@@ -65,10 +66,10 @@ answered zero vs ws old new e = cc
 answered (suc m) vs ws old new e = let z : ◌≡◌ {A = ℕ} 0 1 = cc in absurd (omega arith)
 
 -- an OPEN that was answered with a phy was judged so
-pub forwarded : (w : ℕ) (phys routes t : List ℕ) (phy : ℕ) (frame buffer : List ℕ) (q : PhyNumber) → answer_of (open_out w phys routes t phy frame buffer) ≡ opened_as (Forward q)
+pub forwarded : (w : ℕ) (phys routes t : List ℕ) (phy : ℕ) (frame buffer : List ℕ) (q : PhyNumber) → answer_of (open_out w phys routes t phy frame buffer) ≡ opened_as (Ok (Forward q))
     → opened w phys routes t phy frame ≡ Forward q
 forwarded w phys routes t phy frame buffer q e =
-    one_answer _ _ (judged w phys t phy frame (search phys routes frame) ∙ ap answer (answered _ _ _ _ _ e))
+    let r : ◌≡◌ {A = Result Opened Refusal} (Ok (opened w phys routes t phy frame)) (Ok (Forward q)) = one_answer _ _ (ap answer (answered _ _ _ _ _ e)) in cc
 
 none_told : phys_in empty_set ≡ 0
 unfolding phys_in tally member bit empty_set

@@ -4,10 +4,8 @@ use mathlib.Core.Path.{◌≡◌, refl, sym, ap₂, ◌∙◌}
 use mathlib.Core.Bool.{false, ◌||◌}
 use mathlib.Core.List.{List}
 use mathlib.Core.Logic.{inl, inr}
-use Prim.Native.Nat.{ℕ, ◌<◌}
+use Prim.Native.Nat.{ℕ}
 use borrow.Author.Tests.{ne_eqb}
-use lib.Dec.{eqb}
-use Rattle.wire.specs.PhySet.{member}
 use Rattle.permit.specs.Permission.{reaches}
 use Rattle.permit.proofs.ReachLaws.{reach_row, reach_group, reaches_16}
 use Rattle.tables.specs.Phys.{phy_group}
@@ -28,8 +26,8 @@ apart w t a b (inr h, na, nb) = sym (reach_group w t a b _ h refl) ∙ ap₂ ◌
 
 pub no_open_apart : NoOpenApart
 unfolding outcome_of
-no_open_apart w phys routes t phy frame buffer p g s h q o =
-    opens.barred w phys routes t phy frame p g s (apart w t (open_source phys phy frame) g.0 h) q (forwarded w phys routes t phy frame buffer q o)
+no_open_apart w phys routes t phy frame buffer d s h q o =
+    opens.barred w phys routes t phy frame d s (apart w t (open_source phys phy frame) d.group.0 h) q (forwarded w phys routes t phy frame buffer q o)
 
 pub no_broadcast_apart : NoBroadcastApart
 no_broadcast_apart w phys t phy source set r i hi h =

@@ -124,10 +124,10 @@ step w (save_version1 file) t os m = nothing_more w t os m
 step w (save_version2 phys file) t os m = nothing_more w t os m
 step w (load_version1 file) t os m =
     rw (first-buffer (first_refusal (load_checks w t file)) (1 ∷ []) t [] (loaded w (pairs_in file)) [])
-    (loads_made w (first_refusal (load_checks w t file)) t file os m (λ z. load_ascends w t file _ refl z))
+    (loads_made w (first_refusal (load_checks w t file)) t file os m (λ z. load_ascends w t file (sym z)))
 step w (load_version2 phys file) t os m =
     rw (second (first_refusal (load_whole_checks w phys t file)) (version_of file ∷ []) phys t [] (phys_after phys file) (loaded w (pairs_in file)) [])
-    (loads_made w (first_refusal (load_whole_checks w phys t file)) t file os m (λ z. (load_pairs w phys t file _ refl z).1))
+    (loads_made w (first_refusal (load_whole_checks w phys t file)) t file os m (λ z. (load_pairs w phys t file (sym z)).1))
 step w (import_sheet phys phy carried sheet) t os m =
     let os₁ = import_orders w phys t phy carried sheet in
     record {
@@ -170,8 +170,8 @@ off : (w : ℕ) (t : List ℕ) (cs : List Call) → length t ≡ table_size w �
 off w t cs e a b za zb h = sym (reach_in w _ a b _ za.1 zb.1 refl) ∙ (any_run w t cs e).pairs a b za zb ∙ h
 
 pub no_open : NoOpen
-no_open w t cs e phys routes phy frame buffer p g s za zb h q o =
-    opens.barred w phys routes (run w (start_up ∷ cs) t) phy frame p g s (off w t cs e (open_source phys phy frame) g.0 za zb h) q
+no_open w t cs e phys routes phy frame buffer d s za zb h q o =
+    opens.barred w phys routes (run w (start_up ∷ cs) t) phy frame d s (off w t cs e (open_source phys phy frame) d.group.0 za zb h) q
     (forwarded w phys routes (run w (start_up ∷ cs) t) phy frame buffer q o)
 
 -- a phy of a group that the source may not reach is not in the set at the head of the buffer

@@ -8,7 +8,8 @@ use Prim.Native.Nat.{ℕ, zero, suc, ◌≤◌, ◌<◌}
 use native.Mathlib.Decide.{dec_lt}
 use native.Mathlib.Omega.{arith}
 use borrow.Author.Tests.{not-false}
-use Rattle.wire.specs.declared.OutsideGroup.{OutsideGroup}
+use Rattle.std.proofs.Common.{Option}
+use Rattle.wire.specs.declared.ZoneGroup.{ZoneGroup}
 use Rattle.wire.specs.Groups.{outside_group, is_group}
 use Rattle.wire.proofs.GroupLaws.{taken_none, outside_none}
 use lib.Dec.{leb}
@@ -60,13 +61,13 @@ unfolding outcome_of
 no_group = (
   λ w phys t phy carried changes request response set v bs p e.
       let k = arrival_clear phys phy (permissions_sized w t) (room_for response set) true _ _ refl (unrefused _ _ _ _ v bs e) tt in
-      group_most carried (sym (ap (λ (o : OutsideGroup). not (is_group o)) (speaks phys phy carried p)) ∙ k.1.1.1.0),
+      group_most carried (sym (ap (λ (o : Option ZoneGroup). not (is_group o)) (speaks phys phy carried p)) ∙ k.1.1.1.0),
   λ w phys t phy arrived set frame v bs e.
       let k = arrival_clear phys phy (permissions_sized w t) (broadcasts.room_for set frame) true _ _ refl (unrefused _ _ _ _ v bs e) tt in
       group_most (broadcasts.frame_source arrived) (second _ _ (not-false (participating phys phy) k.1.1.1.1.1.1.0) k.1.1.1.1.1.0),
   λ w phys t phy carried sheet v bs p e.
       let k = arrival_clear phys phy (permissions_sized w t) (leb (length sheet) sheet_most) true _ _ refl (unrefused _ _ _ _ v bs e) tt in
-      group_most carried (sym (ap (λ (o : OutsideGroup). not (is_group o)) (speaks phys phy carried p)) ∙ k.1.0),
+      group_most carried (sym (ap (λ (o : Option ZoneGroup). not (is_group o)) (speaks phys phy carried p)) ∙ k.1.0),
 )
 
 -- ---- a request is answered by its source alone

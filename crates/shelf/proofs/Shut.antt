@@ -10,7 +10,7 @@ use Rattle.wire.specs.PhySet.{phys_in}
 use Rattle.wire.proofs.Sets.{count_front}
 use Rattle.permit.specs.Permission.{P, start_table}
 use Rattle.permit.proofs.Laws.{P-start}
-use Rattle.tables.specs.Outcome.{Answer, answer, out}
+use Rattle.tables.specs.Outcome.{answer}
 use Rattle.tables.specs.Phys.{phy_group}
 use Rattle.election.proofs.ElectionLaws.{greatest}
 use Rattle.told_set.specs.ToldSet.{told_set}

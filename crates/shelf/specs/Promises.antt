@@ -3,11 +3,9 @@
 -- BothWays, NoOpen, NoBroadcast, NoDiscover), WidePorts.antt (ToldPermitted, ToldOnce, EachPortTold, NoReturn, LeavesPort), Apart.antt (AllHeld,
 -- NoOpenApart, NoBroadcastApart, NoDiscoverApart), Outside.antt (NoGroupNoAnswer, CarriedUnread, Skipped), Learned.antt (LearnsNothingElse, DiscoverKeeps) and Shut.antt
 -- (Counted, Supervisor, ShutOut). Quotes are of the three demands, docs/PROMISES.md, of document 01 and of document 02.
-use Rattle.std.specs.Prelude.{◌≡◌, Bool, true, false, ◌⊎◌, List, [], ◌∷◌, ◌++◌, ℕ, ◌*◌, ◌%◌, ◌≤◌, ◌<◌, eqb, length, get_or, take, drop}
+use Rattle.std.specs.Prelude.{◌≡◌, Bool, true, false, Option, Some, Ok, ◌⊎◌, List, [], ◌∷◌, ◌++◌, ℕ, ◌*◌, ◌%◌, ◌≤◌, ◌<◌, eqb, length, get_or, take, drop}
 use Rattle.wire.specs.declared.PhyNumber.{PhyNumber}
 use Rattle.wire.specs.declared.ZoneGroup.{ZoneGroup}
-use Rattle.wire.specs.declared.OutsideGroup.{OutsideGroup}
-use Rattle.wire.specs.declared.OutsideGroup.TheVariants.{Group}
 use Rattle.wire.specs.PhySet.{member, phys_in}
 use Rattle.permit.specs.Permission.{groups, table_size, permissions_sized, P, reaches}
 use Rattle.permit.specs.History.{Zone, latest, Says}
@@ -17,7 +15,7 @@ use Rattle.tables.specs.Ports.{same_port}
 use Rattle.tables.specs.Routes.{route_record}
 use Rattle.links.specs.Links.{linked_as}
 use Rattle.election.specs.Election.{elected_as, candidates, elected, Greatest}
-use Rattle.searches.specs.declared.Found.TheVariants.{At}
+use Rattle.searches.specs.declared.Destination.{Destination}
 use Rattle.opens.specs.declared.Opened.TheVariants.{Forward}
 use Rattle.searches.specs.Search.{search}
 use Rattle.opens.specs.Open.{opened_as, open_source, open_out}
@@ -49,7 +47,7 @@ TurnedDown =
 
 -- ---- Exactly one
 
--- an answer that is an enum, told in document 01's numbers by `tells`: two answers, with their buffers, that meet a contract
+-- an answer, told in document 01's numbers by `tells`: two answers, with their buffers, that meet a contract
 -- `out (tells r) buffers ≡ o` are equal
 abbrev pub One : {A : Type 0} → (A → Answer) → Type 0
 One {A} tells = (r q : A) (xs ys : List (List ℕ)) (o : Out) → out (tells r) xs ≡ o → out (tells q) ys ≡ o → (r ≡ q) × (xs ≡ ys)
@@ -76,10 +74,10 @@ BothWays =
 abbrev pub NoOpen : Type 0
 NoOpen =
     (w : ℕ) (t : List ℕ) (cs : List Call) → length t ≡ table_size w
-    → (phys routes : List ℕ) (phy : ℕ) (frame buffer : List ℕ) (p : PhyNumber) (g : ZoneGroup) → search phys routes frame ≡ At p g
-    → Zone w (open_source phys phy frame) → Zone w g.0
-    → latest (orders w (start_up ∷ cs) t []) (open_source phys phy frame) g.0 false ≡ false
-    → (q : PhyNumber) → answer_of (open_out w phys routes (run w (start_up ∷ cs) t) phy frame buffer) ≡ opened_as (Forward q) → ⊥
+    → (phys routes : List ℕ) (phy : ℕ) (frame buffer : List ℕ) (d : Destination) → search phys routes frame ≡ Some d
+    → Zone w (open_source phys phy frame) → Zone w d.group.0
+    → latest (orders w (start_up ∷ cs) t []) (open_source phys phy frame) d.group.0 false ≡ false
+    → (q : PhyNumber) → answer_of (open_out w phys routes (run w (start_up ∷ cs) t) phy frame buffer) ≡ opened_as (Ok (Forward q)) → ⊥
 
 -- "no incoming broadcast from a goes to a phy of b": buffer 0 of both calls is the phy set
 abbrev pub NoBroadcast : Type 0
@@ -99,7 +97,7 @@ pub record Discovers (phys : List ℕ) (phy carried : ℕ) (request : List ℕ) 
   pub said : length_said request ≡ true
   pub heeds : ignores_groups request ≡ false
   pub there : asked_phy request < phy_count phys
-  pub from : smp_source phys phy carried ≡ Group (record { 0 = a })
+  pub from : smp_source phys phy carried ≡ Some (record { 0 = a })
   pub for : phy_group phys (asked_phy request) ≡ b
 
 -- "PHY VACANT" and nothing else: result 16h, four bytes, nobody told; and the four buffers, of which both tables stay
@@ -154,7 +152,7 @@ EachPortTold =
 abbrev pub NoReturn : Type 0
 NoReturn =
     (w : ℕ) (phys routes t : List ℕ) (phy : ℕ) (frame buffer : List ℕ) (q : PhyNumber)
-    → answer_of (outcome_of w (opening phys routes phy frame buffer) t) ≡ opened_as (Forward q) → same_port phys phy q.0 ≡ false
+    → answer_of (outcome_of w (opening phys routes phy frame buffer) t) ≡ opened_as (Ok (Forward q)) → same_port phys phy q.0 ≡ false
 
 -- a phy that leaves ready leaves its port: it is by itself in the phy table that the call leaves (its buffer 0)
 abbrev pub LeavesPort : Type 0
@@ -175,9 +173,9 @@ Apart w a b = ((groups w ≤ a) ⊎ (groups w ≤ b)) × (a ≡ 1 → ⊥) × (b
 -- no OPEN is forwarded between them, whatever the table holds and whatever was ordered
 abbrev pub NoOpenApart : Type 0
 NoOpenApart =
-    (w : ℕ) (phys routes t : List ℕ) (phy : ℕ) (frame buffer : List ℕ) (p : PhyNumber) (g : ZoneGroup) → search phys routes frame ≡ At p g
-    → Apart w (open_source phys phy frame) g.0
-    → (q : PhyNumber) → answer_of (outcome_of w (opening phys routes phy frame buffer) t) ≡ opened_as (Forward q) → ⊥
+    (w : ℕ) (phys routes t : List ℕ) (phy : ℕ) (frame buffer : List ℕ) (d : Destination) → search phys routes frame ≡ Some d
+    → Apart w (open_source phys phy frame) d.group.0
+    → (q : PhyNumber) → answer_of (outcome_of w (opening phys routes phy frame buffer) t) ≡ opened_as (Ok (Forward q)) → ⊥
 
 -- and no incoming broadcast from the one goes to a phy of the other
 abbrev pub NoBroadcastApart : Type 0
@@ -233,7 +231,7 @@ pub record Shelf : Type 0 where
   pub set : List ℕ
 
 -- the caller's source group
-abbrev pub source_of : Shelf → OutsideGroup
+abbrev pub source_of : Shelf → Option ZoneGroup
 source_of s = smp_source s.phys s.phy s.carried
 
 -- "permitted to that group": P(source group, phy i's group), whether phy i is ready or not

@@ -117,22 +117,6 @@ module _ (row at : ℕ) (d : List ℕ) (room : at + 16 ≤ length d) where
       (between_join (start_rows row at) (λ _. 0) at at (at + 15) d d u (between_start (start_rows row at) at d (omega arith)) s
       (λ i l h. row_other row at i n l h)))
 
--- row k behind those before it
-pub rows_again : (start k : ℕ) (t u v : List ℕ) → Between (start_rows start 12) 12 t u (12 + 16 * k)
-    → Between (start_rows (start + k) (12 + 16 * k)) (12 + 16 * k) u v (12 + 16 * k + 16) → Between (start_rows start 12) 12 t v (12 + 16 * (k + 1))
-rows_again start k t u v s r =
-    let q : 12 + 16 * k + 16 ≡ 12 + 16 * (k + 1) = omega arith in
-    rw (← q)
-    (between_join (start_rows start 12) (start_rows (start + k) (12 + 16 * k)) 12 (12 + 16 * k) (12 + 16 * k + 16) t u v s r
-    (λ i l h. let e : 16 * (start + k) + (i - (12 + 16 * k)) ≡ 16 * start + (i - 12) = omega arith in ap (start_byte 16) e))
-
--- after the loop that writes start-up's rows they stand there
-pub rows_started : (start n h x : ℕ) (d u : List ℕ) → Between (start_rows start 12) 12 d u (12 + 16 * n) → h ≡ min n x → Started start h u
-rows_started start n h x d u s e = record {
-  room = omega (arith, s.sized, s.up_to);
-  says = λ i lo hi. between_in (start_rows start 12) 12 d u (12 + 16 * n) i s lo (omega arith);
-}
-
 -- row k of the n that the table holds
 module _ (w : ℕ) (t : List ℕ) (start n : ℕ) (d₀ : List ℕ) (bytes : Bytes t) (table : Table w t) (held : n ≤ groups w - start) (st : Started start n d₀) where
   module _ (d : List ℕ) (k from : ℕ) (s : Between (shown w t start) 12 d₀ d (12 + 16 * k)) (hk : k < n) (ef : from ≡ (start + k) * w) where

@@ -2,7 +2,7 @@
 -- 1, 2, 8, 8, 9, 9, 0 and 1, with a permission table of 8 bytes.
 use Rattle.std.specs.Prelude.{◌≡◌, List, [], ◌∷◌, ◌++◌, ℕ, ◌+◌, get_or, take, drop, replicate}
 use Rattle.permit.specs.Permission.{start_table}
-use Rattle.tables.specs.Outcome.{Answer, refusal, answer, Out, out}
+use Rattle.tables.specs.Outcome.{refusal, answer, Out, out}
 use Rattle.links.specs.Links.{start_up_out}
 use Rattle.opens.specs.Open.{open_out}
 use Rattle.broadcasts.specs.Broadcasts.{primitive_out}

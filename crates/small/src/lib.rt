@@ -18,15 +18,15 @@ ghost use Rattle.version_2.specs.Version2.{save_whole_out, load_whole_out};
 use discover::Changes;
 use wire::PhyNumber;
 
-// The answers.
-pub use broadcasts::Told;
-pub use election::Elected;
-pub use exports::Exported;
-pub use file_trailer::{Loaded, Saved};
+// The answers, and why a call is refused.
+pub use election::Supervisor;
+pub use file_trailer::Version;
 pub use imports::Imported;
-pub use links::Linked;
+pub use imports::cause::Cause;
 pub use opens::Opened;
+pub use requests::FunctionResult;
 pub use smp::Answered;
+pub use tables::refusal::Refusal;
 
 // A phy leaves the ready state; IDENTIFY arrives on one; the elected supervisor.
 pub use election::elect;
@@ -36,7 +36,7 @@ pub use links::{identify, leaving};
 const WIDTH: usize = 1;
 
 // Start-up writes the permission table.
-pub fn start_up(permissions: &mut [u8]) -> Linked
+pub fn start_up(permissions: &mut [u8]) -> Result<(), Refusal>
     ensures { out (linked_as result) (permissions.new ∷ []) ≡ start_up_out 1 permissions.old }
 {
     links::start_up_at(WIDTH, permissions)
@@ -50,7 +50,7 @@ pub fn open(
     phy: PhyNumber,
     frame: &[u8],
     buffer: &mut [u8],
-) -> Opened
+) -> Result<Opened, Refusal>
     ensures { out (opened_as result) (buffer.new ∷ []) ≡ open_out 1 phys.now routes.now permissions.now phy.0 frame.now buffer.old }
 {
     opens::open_at(WIDTH, phys, routes, permissions, phy, frame, buffer)
@@ -64,7 +64,7 @@ pub fn primitive(
     number: u8,
     set: &mut [u8],
     frame: &mut [u8],
-) -> Told
+) -> Result<u8, Refusal>
     ensures { out (told_as result) (set.new ∷ frame.new ∷ []) ≡ primitive_out 1 phys.now permissions.now phy.0 number set.old frame.old }
 {
     broadcasts::primitive_at(WIDTH, phys, permissions, phy, number, set, frame)
@@ -77,7 +77,7 @@ pub fn broadcast_frame(
     arrived: &[u8],
     set: &mut [u8],
     frame: &mut [u8],
-) -> Told
+) -> Result<u8, Refusal>
     ensures { out (told_as result) (set.new ∷ frame.new ∷ []) ≡ broadcast_out 1 phys.now permissions.now phy.0 arrived.now set.old frame.old }
 {
     broadcasts::broadcast_frame_at(WIDTH, phys, permissions, phy, arrived, set, frame)
@@ -93,7 +93,7 @@ pub fn smp(
     request: &[u8],
     response: &mut [u8],
     set: &mut [u8],
-) -> Answered
+) -> Result<Answered, Refusal>
     ensures { out (answered_as result) (phys.new ∷ permissions.new ∷ response.new ∷ set.new ∷ []) ≡ smp_out 1 phys.old permissions.old phy.0 carried changes request.now response.old set.old }
 {
     smp::smp_at(
@@ -116,38 +116,42 @@ pub fn import_sheet(
     phy: PhyNumber,
     carried: u8,
     sheet: &[u8],
-) -> Imported
+) -> Result<Imported, Refusal>
     ensures { out (imported_as result) (permissions.new ∷ []) ≡ import_out 1 phys.now permissions.old phy.0 carried sheet.now }
 {
     imports::import_sheet_at(WIDTH, phys, permissions, phy, carried, sheet)
 }
 
-pub fn export_sheet(permissions: &[u8], sheet: &mut [u8]) -> Exported
+pub fn export_sheet(permissions: &[u8], sheet: &mut [u8]) -> Result<u32, Refusal>
     ensures { out (exported_as result) (sheet.new ∷ []) ≡ export_out 1 permissions.now sheet.old }
 {
     exports::export_sheet_at(WIDTH, permissions, sheet)
 }
 
 // The tables are saved as a file, of version 1 or 2, and loaded from one.
-pub fn save_version_1(permissions: &[u8], file: &mut [u8]) -> Saved
+pub fn save_version_1(permissions: &[u8], file: &mut [u8]) -> Result<u32, Refusal>
     ensures { out (saved_as result) (file.new ∷ []) ≡ save_out 1 permissions.now file.old }
 {
     version_1::save_version_1_at(WIDTH, permissions, file)
 }
 
-pub fn save_version_2(phys: &[u8], permissions: &[u8], file: &mut [u8]) -> Saved
+pub fn save_version_2(phys: &[u8], permissions: &[u8], file: &mut [u8]) -> Result<u32, Refusal>
     ensures { out (saved_as result) (file.new ∷ []) ≡ save_whole_out 1 phys.now permissions.now file.old }
 {
     version_2::save_version_2_at(WIDTH, phys, permissions, file)
 }
 
-pub fn load_version_1(permissions: &mut [u8], file: &[u8]) -> Loaded
+pub fn load_version_1(permissions: &mut [u8], file: &[u8]) -> Result<Version, Refusal>
     ensures { out (loaded_as result) (permissions.new ∷ []) ≡ load_out 1 permissions.old file.now }
 {
     version_1::load_version_1_at(WIDTH, permissions, file)
 }
 
-pub fn load_version_2(phys: &mut [u8], permissions: &mut [u8], file: &[u8]) -> Loaded
+pub fn load_version_2(
+    phys: &mut [u8],
+    permissions: &mut [u8],
+    file: &[u8],
+) -> Result<Version, Refusal>
     ensures { out (loaded_as result) (phys.new ∷ permissions.new ∷ []) ≡ load_whole_out 1 phys.old permissions.old file.now }
 {
     version_2::load_version_2_at(WIDTH, phys, permissions, file)

@@ -15,7 +15,7 @@ use lib.Seq.{get_or-set_same, get_or-set_other, drop_at}
 use Rattle.wire.specs.Bits.{tab}
 use Rattle.wire.specs.PhySet.{set_byte, set_of}
 use Rattle.wire.proofs.Loops.{Filled, fill_start, fill_again, fill_rest, fill_end}
-use Rattle.wire.proofs.Sets.{Up, up_start, bits_lt, up_room, up_twice, up_on, up_off, up_end, byte_past}
+use Rattle.wire.proofs.Sets.{Up, up_start, bits_lt, up_room, up_on, up_off, up_end, byte_past}
 use Rattle.tables.specs.Phys.{phy_record, phy_count, phy_address, ready, empty_set}
 use Rattle.tables.specs.Ports.{same_port}
 use Rattle.tables.proofs.ArrivalLaws.{never, both}
@@ -251,9 +251,6 @@ falls_at phys next from k f l =
     omega arith
 
 module _ (phys next : List ℕ) (address from k : ℕ) where
-  pub along_start : Along phys next address from from
-  along_start = record { within = omega arith; rest = λ r m. m }
-
   pub along_again : (a n : ℕ) → Chain phys next from → Along phys next address from k → 0 < k → a ≡ phy_address phys (k - 1) → (a ≡ address → ⊥)
       → n ≡ get_or next k 0 → Along phys next address from n
   along_again a n f w l ea ne e = record {
@@ -261,25 +258,11 @@ module _ (phys next : List ℕ) (address from k : ℕ) where
     rest = λ r m. w.rest r (onward phys next address k r l (λ z. ne (ea ∙ z)) (rw e at m));
   }
 
-  pub along_less : (n : ℕ) → Chain phys next from → 0 < k → n ≡ get_or next k 0 → n < k
-  along_less n f l e = omega (arith, falls_at phys next from k f l)
-
   pub along_met : (a : ℕ) → Along phys next address from k → 0 < k → a ≡ phy_address phys (k - 1) → a ≡ address → Met phys next address from true
   along_met a w l ea e = w.rest true (found phys next address k l (sym ea ∙ e))
 
   pub along_end : Along phys next address from k → k ≤ 0 → Met phys next address from false
   along_end w z = w.rest false (ended phys next address k z)
-
--- ---- what the walk along the chain asks
-pub chain_there : (w : ℕ) (phys permissions : List ℕ) (phy source i : ℕ) (slots next : List ℕ) (slot last : ℕ) → Kept w phys permissions phy source i slots next
-    → length phys ≤ 128 * phy_record → i < phy_count phys → slot < 256 → last ≡ get_or slots slot 0
-    → Chain phys (set next (i + 1) (get_or slots slot 0)) last
-chain_there w phys permissions phy source i slots next slot last q few li ls el = record {
-  there = omega (arith, (q.heads slot ls).within);
-  short = omega (arith, (q.heads slot ls).within);
-  linked = simp length-set q.linked;
-  falls = falls_link w phys permissions phy source i slot slots next ls (omega arith) q;
-}
 
 -- ---- the ways out of `is_told`: v is whether phy i is permitted
 module _ (w : ℕ) (phys permissions : List ℕ) (phy source i : ℕ) (slots next : List ℕ) (q : Kept w phys permissions phy source i slots next) (v : Bool) (e : v ≡ permitted w phys permissions source i) where
@@ -349,14 +332,8 @@ module _ (w : ℕ) (phys permissions : List ℕ) (phy source k : ℕ) (slots nex
     short : i < 8 * k + 8
     short = omega arith
 
-    pub rise_there : i < phy_count phys
-    rise_there = omega arith
-
     pub rise_room : byte + bit < 65536
     rise_room = let l = up_room (told w phys permissions phy source) (8 * k) byte bit i u.up short in omega arith
-
-    pub rise_twice : bit + bit < 65536
-    rise_twice = up_twice (told w phys permissions phy source) (8 * k) byte bit i u.up short
 
     module _ (slots₁ next₁ : List ℕ) (v : Bool) (x : ℕ) (j : Judged w phys permissions phy source i slots₁ next₁ v) where
       pub rise_on : v ≡ true → x ≡ byte + bit → Rising w phys permissions phy source k slots₁ next₁ x (bit + bit) (i + 1)
@@ -417,12 +394,6 @@ module _ (w : ℕ) (phys permissions : List ℕ) (phy source : ℕ) where
       }
 
   module _ (set₀ s slots next : List ℕ) (k : ℕ) (t : Telling w phys permissions phy source set₀ s slots next k) where
-    pub tell_kept : 8 * k < phy_count phys → Kept w phys permissions phy source (8 * k) slots next
-    tell_kept h = t.kept h
-
-    pub tell_room : length phys ≤ 128 * phy_record → 8 * k < phy_count phys → k < length s
-    tell_room most h = omega (arith, t.room, t.made.same)
-
     pub tell_again : (slots₁ next₁ : List ℕ) (b : ℕ) → length phys ≤ 128 * phy_record → 8 * k < phy_count phys
         → ByteTold w phys permissions phy source k slots₁ next₁ b → Telling w phys permissions phy source set₀ (set s k b) slots₁ next₁ (k + 1)
     tell_again slots₁ next₁ b most h j = record {

@@ -29,7 +29,7 @@ fn slot_of(address: u64) -> usize
 }
 
 // Whether a phy of the chain has this address. `from` and each element of `next` are one more than a phy's number, or 0 at the end;
-// phy i's element is at i + 1.
+// phy i's element is at i + 1. By hand: an `Option` in each place would make both arrays twice as long, and each broadcast fills them.
 fn met(phys: &[u8], next: &[u8; 129], address: u64, from: usize) -> bool
     requires { Chain phys.now next.now from }
     ensures { Met phys.now next.now address from result }

@@ -1,6 +1,6 @@
 -- Version 1, loaded: the refusals, row by row, and the records of a file that has them.
 -- Assumes nothing.
-use mathlib.Core.Path.{◌≡◌, sym, ap, ◌∙◌}
+use mathlib.Core.Path.{◌≡◌, refl, sym, ap, ◌∙◌}
 use mathlib.Core.Bool.{Bool, true, false, not}
 use mathlib.Core.List.{List, [], ◌∷◌}
 use Prim.Native.Nat.{ℕ, ◌-◌, ◌*◌, ◌%◌, ◌≤◌}
@@ -14,16 +14,17 @@ use Rattle.permit.specs.Orders.{apply}
 use Rattle.permit.specs.History.{Valid}
 use Rattle.permit.proofs.Laws.{table_sized, length-start}
 use Rattle.tables.specs.Refusals.{first_refusal, refuse, off, below, same, differ}
-use Rattle.tables.proofs.RefusalLaws.{clear, skipped, front, back, rows, first, here, next}
+use Rattle.tables.proofs.RefusalLaws.{clear, skipped, rows, first, here, next}
 use Rattle.file_pairs.specs.Pairs.{ascending, orders_of, loaded}
 use Rattle.file_pairs.proofs.Records.{ascends, orders_valid}
 use Rattle.file_trailer.specs.Trailer.{version_of, count_of, pairs_in, lengths_checks}
+use Rattle.file_trailer.proofs.Trailers.{lengths_back}
 use Rattle.version_1.specs.Version1.{pairs_checks, load_checks, Holding}
 
 -- ---- the records: a file whose lengths agree has them
-pub lengths_hold : (file : List ℕ) (beside r : ℕ) → r ≡ first_refusal (lengths_checks file beside) → r ≡ 0 → 12 ≤ length file → Holding file
-lengths_hold file beside r e z l =
-    let k = clear (lengths_checks file beside) r e z tt in
+pub lengths_hold : (file : List ℕ) (beside : ℕ) → 0 ≡ first_refusal (lengths_checks file beside) → 12 ≤ length file → Holding file
+lengths_hold file beside e l =
+    let k = clear (lengths_checks file beside) 0 e refl tt in
     record { long = l; there = omega arith }
 
 module _ (file : List ℕ) (h : Holding file) (end : ℕ) (e : end ≡ 2 * count_of file) where
@@ -50,16 +51,12 @@ pub started : (w : ℕ) (s t : List ℕ) → Table w s → t ≡ start_table w �
 started w s t h e = record { some = h.some; most = h.most; sized = ap length e ∙ length-start w }
 
 -- ---- the refusals
-module _ (w : ℕ) (file : List ℕ) (r : ℕ) (e : r ≡ first_refusal (lengths_checks file 12)) where
-  pub lengths_refused : (r ≡ 0 → ⊥) → r ≡ first_refusal (pairs_checks w file)
-  lengths_refused h = front (lengths_checks file 12) (refuse 37 (off (ascending w 0 (pairs_in file))) ∷ []) r e h
+module _ (w : ℕ) (file : List ℕ) (e : 0 ≡ first_refusal (lengths_checks file 12)) (v : Bool) (ev : v ≡ ascending w 0 (pairs_in file)) where
+  pub pairs_refused : not v ≡ true → 37 ≡ first_refusal (pairs_checks w file)
+  pairs_refused h = lengths_back file 12 37 (refuse 37 (off (ascending w 0 (pairs_in file))) ∷ []) e (search rows depth 16)
 
-  module _ (z : r ≡ 0) (v : Bool) (ev : v ≡ ascending w 0 (pairs_in file)) where
-    pub pairs_refused : not v ≡ true → 37 ≡ first_refusal (pairs_checks w file)
-    pairs_refused h = back (lengths_checks file 12) (refuse 37 (off (ascending w 0 (pairs_in file))) ∷ []) r 37 tt e z (search rows depth 16)
-
-    pub pairs_taken : not v ≡ false → 0 ≡ first_refusal (pairs_checks w file)
-    pairs_taken h = back (lengths_checks file 12) (refuse 37 (off (ascending w 0 (pairs_in file))) ∷ []) r 0 tt e z (search rows depth 16)
+  pub pairs_taken : not v ≡ false → 0 ≡ first_refusal (pairs_checks w file)
+  pairs_taken h = lengths_back file 12 0 (refuse 37 (off (ascending w 0 (pairs_in file))) ∷ []) e (search rows depth 16)
 
 -- behind the first two rows, with v the version that was read
 module _ (w : ℕ) (permissions file : List ℕ) (sized : Bool) (v : ℕ) (es : sized ≡ permissions_sized w permissions) (hs : not sized ≡ false)
@@ -82,13 +79,13 @@ module _ (w : ℕ) (permissions file : List ℕ) (sized : Bool) (v : ℕ) (es : 
       ∙ skipped 33 (differ (version_of file) 1) (pairs_checks w file) (sym ev ∙ h))
 
 -- ---- what a load that is not refused knows
-module _ (w : ℕ) (permissions file : List ℕ) (r : ℕ) (e : r ≡ first_refusal (load_checks w permissions file)) (z : r ≡ 0) where
+module _ (w : ℕ) (permissions file : List ℕ) (e : 0 ≡ first_refusal (load_checks w permissions file)) where
   pub load_ascends : ascending w 0 (pairs_in file) ≡ true
   load_ascends =
-      let k = clear (load_checks w permissions file) r e z tt in
+      let k = clear (load_checks w permissions file) 0 e refl tt in
       not-false (ascending w 0 (pairs_in file)) k.1.1.1.1.1.1.1.0
 
   pub load_ready : Width w → Table w permissions × Holding file × (ascending w 0 (pairs_in file) ≡ true)
   load_ready h =
-      let k = clear (load_checks w permissions file) r e z tt in
+      let k = clear (load_checks w permissions file) 0 e refl tt in
       (table_sized w permissions h (not-false (permissions_sized w permissions) k.0), record { long = k.1.0; there = omega arith }, load_ascends)

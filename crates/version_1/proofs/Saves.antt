@@ -1,6 +1,6 @@
 -- Version 1, saved: the pairs and then the trailer, and the call's end.
 -- Assumes nothing.
-use mathlib.Core.Path.{◌≡◌, sym, ap, ◌∙◌}
+use mathlib.Core.Path.{◌≡◌, refl, sym, ap, ◌∙◌}
 use mathlib.Core.Bool.{Bool, false, not}
 use mathlib.Core.List.{List, [], ◌∷◌, ◌++◌}
 use Prim.Native.Nat.{ℕ, ◌+◌, ◌-◌, ◌/◌, ◌≤◌, ◌<◌}
@@ -8,6 +8,7 @@ use native.Mathlib.Nat.{mul-le-mul}
 use native.Mathlib.Omega.{arith}
 use borrow.Author.Tests.{not-false}
 use lib.ListN.{length, drop, length-append}
+use Rattle.std.proofs.Common.{Ok}
 use Rattle.permit.specs.Permission.{groups, permissions_sized, Width, Table}
 use Rattle.permit.proofs.Laws.{table_sized}
 use Rattle.tables.specs.Outcome.{answer, out}
@@ -21,7 +22,6 @@ use Rattle.file_pairs.specs.Pairs.{pairs_of}
 use Rattle.file_pairs.proofs.Writes.{pairs_length}
 use Rattle.file_trailer.specs.Trailer.{trailer}
 use Rattle.file_trailer.specs.Answers.{saved_as}
-use Rattle.file_trailer.specs.declared.Saved.TheVariants.{Written}
 use Rattle.file_trailer.proofs.Trailers.{length-trailer}
 use Rattle.version_1.specs.Version1.{file_of, save_checks, save_out}
 
@@ -73,14 +73,14 @@ file_length w t =
     ∙ ap (λ (m : ℕ). length (pairs_of w t) + m) (length-trailer 1 (length (pairs_of w t) / 2) 0 (length (pairs_of w t) + 12))
 
 -- ---- the call's end
-pub save_ready : (w : ℕ) (t : List ℕ) (room r : ℕ) → Width w → r ≡ first_refusal (save_checks w t room) → r ≡ 0 → Table w t × (16400 ≤ room)
-save_ready w t room r h e z =
-    let k = clear (save_checks w t room) r e z tt in
+pub save_ready : (w : ℕ) (t : List ℕ) (room : ℕ) → Width w → 0 ≡ first_refusal (save_checks w t room) → Table w t × (16400 ≤ room)
+save_ready w t room h e =
+    let k = clear (save_checks w t room) 0 e refl tt in
     (table_sized w t h (not-false (permissions_sized w t) k.0), k.1.0)
 
-module _ (w : ℕ) (t f : List ℕ) (r : ℕ) (h : Width w) (e : r ≡ first_refusal (save_checks w t (length f))) (z : r ≡ 0) where
+module _ (w : ℕ) (t f : List ℕ) (h : Width w) (e : 0 ≡ first_refusal (save_checks w t (length f))) where
   ready : Table w t × (16400 ≤ length f)
-  ready = save_ready w t (length f) r h e z
+  ready = save_ready w t (length f) h e
 
   fits : length (file_of w t) ≤ length f
   fits = omega (arith, ready.1, file_length w t, pairs_fit w t ready.0)
@@ -89,10 +89,10 @@ module _ (w : ℕ) (t f : List ℕ) (r : ℕ) (h : Width w) (e : r ≡ first_ref
     pub save_short : end < 4294967296
     save_short = omega (arith, p.ends, file_length w t, pairs_fit w t ready.0)
 
-    pub save_gives : out (saved_as (Written end)) (f₁ ∷ []) ≡ save_out w t f
+    pub save_gives : out (saved_as (Ok end)) (f₁ ∷ []) ≡ save_out w t f
     save_gives =
         let en : end ≡ length (file_of w t) = omega (arith, p.ends) in
-        gives (saved_as (Written end)) (length (file_of w t) ∷ []) r (first_refusal (save_checks w t (length f))) (f₁ ∷ []) (f ∷ [])
-        ((file_of w t ++ drop (length (file_of w t)) f) ∷ []) e z
+        gives (saved_as (Ok end)) (length (file_of w t) ∷ []) (first_refusal (save_checks w t (length f))) (f₁ ∷ []) (f ∷ [])
+        ((file_of w t ++ drop (length (file_of w t)) f) ∷ []) e
         (ap (λ (m : ℕ). answer (m ∷ [])) en)
         (ap (λ (u : List ℕ). u ∷ []) (wrote_front f f₁ end (file_of w t) p fits))

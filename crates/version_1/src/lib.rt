@@ -5,29 +5,30 @@ ghost use Rattle.std.specs.Prelude.{◌≡◌, true, [], ◌∷◌, ◌*◌, ◌
 ghost use Rattle.permit.specs.Permission.{Width, Table};
 ghost use Rattle.tables.specs.Refusals.{first_refusal};
 ghost use Rattle.tables.specs.Outcome.{out};
+ghost use Rattle.tables.specs.Numbers.{refused};
 ghost use Rattle.lines.specs.Written.{Wrote};
 ghost use Rattle.file_pairs.specs.Pairs.{ascending, loaded};
 ghost use Rattle.file_trailer.specs.Trailer.{count_of, pairs_in};
 ghost use Rattle.file_trailer.specs.Answers.{saved_as, loaded_as};
 ghost use Rattle.version_1.specs.Version1.{file_of, save_checks, save_out, pairs_checks, load_checks, load_out, Holding};
 
-use file_trailer::{FILE_ROOM, Loaded, Saved, TRAILER};
-use tables::WRONG_SIZE;
+use file_trailer::{FILE_ROOM, TRAILER, Version};
+use tables::refusal::Refusal;
 
-fn save_refusal(width: usize, permissions: &[u8], room: usize) -> u8
+fn check_save(width: usize, permissions: &[u8], room: usize) -> Result<(), Refusal>
     requires { Width width }
-    ensures { result ≡ first_refusal (save_checks width permissions.now room) }
+    ensures { refused result ≡ first_refusal (save_checks width permissions.now room) }
 {
     if !permit::permissions_sized(width, permissions) {
-        return WRONG_SIZE;
+        return Err(Refusal::WrongSize);
     }
     if room < FILE_ROOM {
-        return file_trailer::NO_ROOM;
+        return Err(Refusal::NoRoom);
     }
     if !file_pairs::is_described(width, permissions) {
-        return file_trailer::PERMISSIONS_NOT_AS_DESCRIBED;
+        return Err(Refusal::PermissionsNotAsDescribed);
     }
-    0
+    Ok(())
 }
 
 fn write_file(width: usize, permissions: &[u8], file: &mut [u8]) -> usize
@@ -39,16 +40,13 @@ fn write_file(width: usize, permissions: &[u8], file: &mut [u8]) -> usize
 }
 
 // Writes the permission table's file and answers its length.
-pub fn save_version_1_at(width: usize, permissions: &[u8], file: &mut [u8]) -> Saved
+pub fn save_version_1_at(width: usize, permissions: &[u8], file: &mut [u8]) -> Result<u32, Refusal>
     requires { Width width }
     ensures { out (saved_as result) (file.new ∷ []) ≡ save_out width permissions.now file.old }
 {
-    let no = save_refusal(width, permissions, file.len());
-    if no != 0 {
-        return Saved::Refused(no);
-    }
+    check_save(width, permissions, file.len())?;
     let end = write_file(width, permissions, file);
-    Saved::Written(end as u32)
+    Ok(end as u32)
 }
 
 // Where the records end.
@@ -69,38 +67,35 @@ pub fn are_pairs_ascending(width: usize, file: &[u8]) -> bool
 }
 
 // What a file of version 1 is refused for, by either reader.
-pub fn pairs_refusal(width: usize, file: &[u8]) -> u8
+pub fn check_pairs(width: usize, file: &[u8]) -> Result<(), Refusal>
     requires { Width width × (12 ≤ length file.now) }
-    ensures { result ≡ first_refusal (pairs_checks width file.now) }
+    ensures { refused result ≡ first_refusal (pairs_checks width file.now) }
 {
-    let no = file_trailer::lengths_refusal(file, TRAILER as u64);
-    if no != 0 {
-        return no;
-    }
+    file_trailer::check_lengths(file, TRAILER as u64)?;
     if !are_pairs_ascending(width, file) {
-        return file_trailer::BAD_PAIR;
+        return Err(Refusal::BadPair);
     }
-    0
+    Ok(())
 }
 
-fn load_refusal(width: usize, permissions: &[u8], file: &[u8]) -> u8
+fn check_load(width: usize, permissions: &[u8], file: &[u8]) -> Result<(), Refusal>
     requires { Width width }
-    ensures { result ≡ first_refusal (load_checks width permissions.now file.now) }
+    ensures { refused result ≡ first_refusal (load_checks width permissions.now file.now) }
 {
     if !permit::permissions_sized(width, permissions) {
-        return WRONG_SIZE;
+        return Err(Refusal::WrongSize);
     }
     if file.len() < TRAILER {
-        return file_trailer::TOO_SHORT;
+        return Err(Refusal::TooShort);
     }
     let version = file_trailer::version_of(file);
     if version == 2 {
-        return file_trailer::IS_VERSION_2;
+        return Err(Refusal::IsVersion2);
     }
     if version != 1 {
-        return file_trailer::VERSION_UNKNOWN;
+        return Err(Refusal::VersionUnknown);
     }
-    pairs_refusal(width, file)
+    check_pairs(width, file)
 }
 
 // Start-up, and then a switch-on of each listed pair.
@@ -114,26 +109,27 @@ pub fn restore_pairs(width: usize, permissions: &mut [u8], file: &[u8])
 }
 
 // Reads the permission table back from a file.
-pub fn load_version_1_at(width: usize, permissions: &mut [u8], file: &[u8]) -> Loaded
+pub fn load_version_1_at(
+    width: usize,
+    permissions: &mut [u8],
+    file: &[u8],
+) -> Result<Version, Refusal>
     requires { Width width }
     ensures { out (loaded_as result) (permissions.new ∷ []) ≡ load_out width permissions.old file.now }
 {
-    let refusal = load_refusal(width, permissions, file);
-    if refusal != 0 {
-        return Loaded::Refused(refusal);
-    }
+    check_load(width, permissions, file)?;
     restore_pairs(width, permissions, file);
-    Loaded::Version(1)
+    Ok(Version::One)
 }
 
 // Document 01's shelf.
-pub fn save_version_1(permissions: &[u8], file: &mut [u8]) -> Saved
+pub fn save_version_1(permissions: &[u8], file: &mut [u8]) -> Result<u32, Refusal>
     ensures { out (saved_as result) (file.new ∷ []) ≡ save_out 16 permissions.now file.old }
 {
     save_version_1_at(16, permissions, file)
 }
 
-pub fn load_version_1(permissions: &mut [u8], file: &[u8]) -> Loaded
+pub fn load_version_1(permissions: &mut [u8], file: &[u8]) -> Result<Version, Refusal>
     ensures { out (loaded_as result) (permissions.new ∷ []) ≡ load_out 16 permissions.old file.now }
 {
     load_version_1_at(16, permissions, file)

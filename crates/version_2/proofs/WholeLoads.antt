@@ -11,17 +11,22 @@ use lib.ListN.{length, take, drop, length-drop}
 use lib.Seq.{length-take-le}
 use Rattle.permit.specs.Permission.{permissions_sized, Width, Table}
 use Rattle.permit.proofs.Laws.{table_sized}
+use Rattle.std.proofs.Common.{Result, Ok}
+use Rattle.std.specs.Prelude.{IsErrAnd, ⊤}
 use Rattle.tables.specs.Outcome.{answer, out}
+use Rattle.tables.specs.Numbers.{number, refused}
+use Rattle.tables.specs.declared.refusal.Refusal.{Refusal}
 use Rattle.tables.specs.Refusals.{Check, refuse, below, differ, off, first_refusal}
 use Rattle.tables.specs.Phys.{phy_count, phys_sized}
-use Rattle.tables.proofs.RefusalLaws.{clear, skipped, front, back, apart, agrees_not, first, here, next, none}
+use Rattle.tables.proofs.RefusalLaws.{clear, skipped, apart, agrees_not, first, here, next, none}
 use Rattle.tables.proofs.OutcomeLaws.{gives}
 use Rattle.file_pairs.specs.Pairs.{ascending, loaded}
 use Rattle.file_phys.specs.Block.{numbered, all_writable, rezoned, Below}
 use Rattle.file_phys.proofs.BlockLaws.{numbers_below}
 use Rattle.file_trailer.specs.Trailer.{version_of, count_of, pairs_in, lengths_checks}
 use Rattle.file_trailer.specs.Answers.{loaded_as}
-use Rattle.file_trailer.specs.declared.Loaded.TheVariants.{Version}
+use Rattle.file_trailer.specs.declared.Version.TheVariants.{One, Two}
+use Rattle.file_trailer.proofs.Trailers.{lengths_front, lengths_back}
 use Rattle.version_1.specs.Version1.{pairs_checks, Holding}
 use Rattle.version_2.specs.Version2.{beside, phys_of, block_in, block_checks, whole_checks, version_checks, load_whole_checks, phys_after, load_whole_out, Measured}
 
@@ -78,31 +83,34 @@ module _ (w : ℕ) (phys file : List ℕ) (n : ℕ) (en : n ≡ phys_of file) wh
         pub block_taken : not y ≡ false → 0 ≡ first_refusal (block_checks w phys file)
         block_taken h = first (next (sym en ∙ hn) (next (agrees_not eu hu) (next (agrees_not ex hx) (next (agrees_not ey h) none))))
 
--- ---- the rows of version 2: n is the count that was read, r what the lengths were refused for
+-- ---- the rows of version 2: n is the count that was read
 pub whole_short : (w : ℕ) (phys file : List ℕ) → length file < 14 → 34 ≡ first_refusal (whole_checks w phys file)
 whole_short w phys file h = first (here h)
 
 pub beside_fits : (n : ℕ) → n < 65536 → beside n < 1000000
 beside_fits n h = omega arith
 
-module _ (file : List ℕ) (l : 14 ≤ length file) (n : ℕ) (en : n ≡ phys_of file) (r : ℕ) (e : r ≡ first_refusal (lengths_checks file (beside n))) where
-  of_count : r ≡ first_refusal (lengths_checks file (beside (phys_of file)))
-  of_count = rw (← en) e
+module _ (file : List ℕ) (l : 14 ≤ length file) (n : ℕ) (en : n ≡ phys_of file) where
+  of_count : (r : ℕ) → r ≡ first_refusal (lengths_checks file (beside n)) → r ≡ first_refusal (lengths_checks file (beside (phys_of file)))
+  of_count r e = rw (← en) e
 
-  pub whole_measured : r ≡ 0 → Measured file
-  whole_measured z =
-      let k = clear (lengths_checks file (beside (phys_of file))) r of_count z tt in
+  pub whole_measured : 0 ≡ first_refusal (lengths_checks file (beside n)) → Measured file
+  whole_measured e =
+      let k = clear (lengths_checks file (beside (phys_of file))) 0 (of_count 0 e) refl tt in
       record { long = l; filled = k.1.0 }
 
   module _ (w : ℕ) (phys : List ℕ) where
-    pub whole_lengths : (r ≡ 0 → ⊥) → r ≡ first_refusal (whole_checks w phys file)
-    whole_lengths h =
-        front (lengths_checks file (beside (phys_of file))) (block_checks w phys file) r of_count h
+    -- the refusal e of the lengths, which a `?` hands on in r
+    pub whole_lengths : (r : Result ⊤ Refusal) (e : Refusal) → IsErrAnd r (λ y. y ≡ e) → number e ≡ first_refusal (lengths_checks file (beside n))
+        → refused r ≡ first_refusal (whole_checks w phys file)
+    whole_lengths r e h q =
+        lengths_front file (beside (phys_of file)) (block_checks w phys file) r e h (of_count (number e) q)
         ∙ sym (skipped 34 (below (length file) 14) (lengths_checks file (beside (phys_of file)) ++ block_checks w phys file) l)
 
-    pub whole_block : (m : ℕ) → r ≡ 0 → m ≡ first_refusal (block_checks w phys file) → m ≡ first_refusal (whole_checks w phys file)
-    whole_block m z em =
-        back (lengths_checks file (beside (phys_of file))) (block_checks w phys file) r m tt of_count z em
+    pub whole_block : (m : ℕ) → 0 ≡ first_refusal (lengths_checks file (beside n)) → m ≡ first_refusal (block_checks w phys file)
+        → m ≡ first_refusal (whole_checks w phys file)
+    whole_block m e em =
+        lengths_back file (beside (phys_of file)) m (block_checks w phys file) (of_count 0 e) em
         ∙ sym (skipped 34 (below (length file) 14) (lengths_checks file (beside (phys_of file)) ++ block_checks w phys file) l)
 
 -- ---- which version: v is the one that was read
@@ -131,13 +139,13 @@ version_judged w phys permissions file a b r ea ha eb hb hl er =
     ∙ skipped 31 (below (length file) 12) (version_checks w phys file) hl)
 
 -- ---- what a load that is not refused knows
-module _ (w : ℕ) (phys permissions file : List ℕ) (r : ℕ) (e : r ≡ first_refusal (load_whole_checks w phys permissions file)) (z : r ≡ 0) where
+module _ (w : ℕ) (phys permissions file : List ℕ) (e : 0 ≡ first_refusal (load_whole_checks w phys permissions file)) where
   sizes : List Check
   sizes = refuse 1 (off (phys_sized phys)) ∷ refuse 1 (off (permissions_sized w permissions)) ∷ refuse 31 (below (length file) 12) ∷ []
 
   parts : (first_refusal sizes ≡ 0) × (first_refusal (version_checks w phys file) ≡ 0)
   unfolding sizes load_whole_checks
-  parts = apart sizes (version_checks w phys file) tt (sym e ∙ z)
+  parts = apart sizes (version_checks w phys file) tt (sym e)
 
   pub load_sizes : (phys_sized phys ≡ true) × (permissions_sized w permissions ≡ true) × (12 ≤ length file)
   unfolding sizes
@@ -188,18 +196,18 @@ module _ (w : ℕ) (phys permissions file : List ℕ) (r : ℕ) (e : r ≡ first
   phys_ready v ev h = let k = load_2 (λ q. h (ev ∙ q)) in (k.1, k.4)
 
   module _ (v : ℕ) (ev : v ≡ version_of file) (t : List ℕ) (et : t ≡ loaded w (pairs_in file)) where
-    pub load_gives_1 : v ≡ 1 → out (loaded_as (Version 1)) (phys ∷ t ∷ []) ≡ load_whole_out w phys permissions file
+    pub load_gives_1 : v ≡ 1 → out (loaded_as (Ok One)) (phys ∷ t ∷ []) ≡ load_whole_out w phys permissions file
     unfolding phys_after
     load_gives_1 h =
         let q : version_of file ≡ 1 = sym ev ∙ h in
-        gives (loaded_as (Version 1)) (version_of file ∷ []) r (first_refusal (load_whole_checks w phys permissions file)) (phys ∷ t ∷ []) (phys ∷ permissions ∷ [])
-        (phys_after phys file ∷ loaded w (pairs_in file) ∷ []) e z (ap (λ (n : ℕ). answer (n ∷ [])) (sym q)) (rw (eq-eqb (version_of file) 1 q, et))
+        gives (loaded_as (Ok One)) (version_of file ∷ []) (first_refusal (load_whole_checks w phys permissions file)) (phys ∷ t ∷ []) (phys ∷ permissions ∷ [])
+        (phys_after phys file ∷ loaded w (pairs_in file) ∷ []) e (ap (λ (n : ℕ). answer (n ∷ [])) (sym q)) (rw (eq-eqb (version_of file) 1 q, et))
 
     pub load_gives_2 : (phys₁ : List ℕ) → (v ≡ 1 → ⊥) → phys₁ ≡ rezoned phys (block_in file)
-        → out (loaded_as (Version 2)) (phys₁ ∷ t ∷ []) ≡ load_whole_out w phys permissions file
+        → out (loaded_as (Ok Two)) (phys₁ ∷ t ∷ []) ≡ load_whole_out w phys permissions file
     unfolding phys_after
     load_gives_2 phys₁ h ep =
         let n : version_of file ≡ 1 → ⊥ = λ q. h (ev ∙ q) in
-        gives (loaded_as (Version 2)) (version_of file ∷ []) r (first_refusal (load_whole_checks w phys permissions file)) (phys₁ ∷ t ∷ [])
+        gives (loaded_as (Ok Two)) (version_of file ∷ []) (first_refusal (load_whole_checks w phys permissions file)) (phys₁ ∷ t ∷ [])
         (phys ∷ permissions ∷ [])
-        (phys_after phys file ∷ loaded w (pairs_in file) ∷ []) e z (ap (λ (m : ℕ). answer (m ∷ [])) (sym (load_2 n).0)) (rw (ne_eqb (version_of file) 1 n, ep, et))
+        (phys_after phys file ∷ loaded w (pairs_in file) ∷ []) e (ap (λ (m : ℕ). answer (m ∷ [])) (sym (load_2 n).0)) (rw (ne_eqb (version_of file) 1 n, ep, et))

@@ -1,12 +1,13 @@
 -- Version 2, saved: the pairs, the phys, their count and the trailer, and the call's end.
 -- Assumes nothing.
-use mathlib.Core.Path.{◌≡◌, ap}
+use mathlib.Core.Path.{◌≡◌, refl, ap}
 use mathlib.Core.Bool.{true}
 use mathlib.Core.List.{List, [], ◌∷◌, ◌++◌}
 use Prim.Native.Nat.{ℕ, ◌+◌, ◌*◌, ◌/◌, ◌≤◌, ◌<◌}
 use native.Mathlib.Omega.{arith}
 use borrow.Author.Tests.{not-false}
 use lib.ListN.{length, drop, length-append}
+use Rattle.std.proofs.Common.{Ok}
 use Rattle.permit.specs.Permission.{permissions_sized, Width, Table}
 use Rattle.permit.proofs.Laws.{table_sized}
 use Rattle.tables.specs.Outcome.{answer, out}
@@ -23,7 +24,6 @@ use Rattle.file_phys.specs.Block.{block_of}
 use Rattle.file_phys.proofs.BlockLaws.{block_length}
 use Rattle.file_trailer.specs.Trailer.{two, trailer}
 use Rattle.file_trailer.specs.Answers.{saved_as}
-use Rattle.file_trailer.specs.declared.Saved.TheVariants.{Written}
 use Rattle.file_trailer.proofs.Trailers.{length-trailer}
 use Rattle.version_1.proofs.Saves.{pairs_fit}
 use Rattle.version_2.specs.Version2.{beside, whole_file_of, save_whole_checks, save_whole_out}
@@ -97,15 +97,15 @@ whole_length w phys t =
 pub phys_most : (phys : List ℕ) → phys_sized phys ≡ true → length phys ≤ 128 * phy_record
 phys_most phys e = (phys_records phys e).1
 
-pub save_ready : (w : ℕ) (phys t : List ℕ) (room r : ℕ) → Width w → r ≡ first_refusal (save_whole_checks w phys t room) → r ≡ 0
+pub save_ready : (w : ℕ) (phys t : List ℕ) (room : ℕ) → Width w → 0 ≡ first_refusal (save_whole_checks w phys t room)
     → Table w t × (length phys ≤ 128 * phy_record) × (16400 ≤ room)
-save_ready w phys t room r h e z =
-    let k = clear (save_whole_checks w phys t room) r e z tt in
+save_ready w phys t room h e =
+    let k = clear (save_whole_checks w phys t room) 0 e refl tt in
     (table_sized w t h (not-false (permissions_sized w t) k.1.0), phys_most phys (not-false (phys_sized phys) k.0), k.1.1.0)
 
-module _ (w : ℕ) (phys t f : List ℕ) (r : ℕ) (h : Width w) (e : r ≡ first_refusal (save_whole_checks w phys t (length f))) (z : r ≡ 0) where
+module _ (w : ℕ) (phys t f : List ℕ) (h : Width w) (e : 0 ≡ first_refusal (save_whole_checks w phys t (length f))) where
   ready : Table w t × (length phys ≤ 128 * phy_record) × (16400 ≤ length f)
-  ready = save_ready w phys t (length f) r h e z
+  ready = save_ready w phys t (length f) h e
 
   most : length (whole_file_of w phys t) ≤ 16400
   most = let l = ready.1 in omega (arith, whole_length w phys t, pairs_fit w t ready.0)
@@ -117,10 +117,10 @@ module _ (w : ℕ) (phys t f : List ℕ) (r : ℕ) (h : Width w) (e : r ≡ firs
     pub save_short : end < 4294967296
     save_short = omega (arith, p.ends, most)
 
-    pub save_gives : out (saved_as (Written end)) (f₁ ∷ []) ≡ save_whole_out w phys t f
+    pub save_gives : out (saved_as (Ok end)) (f₁ ∷ []) ≡ save_whole_out w phys t f
     save_gives =
         let en : end ≡ length (whole_file_of w phys t) = omega (arith, p.ends) in
-        gives (saved_as (Written end)) (length (whole_file_of w phys t) ∷ []) r (first_refusal (save_whole_checks w phys t (length f))) (f₁ ∷ []) (f ∷ [])
-        ((whole_file_of w phys t ++ drop (length (whole_file_of w phys t)) f) ∷ []) e z
+        gives (saved_as (Ok end)) (length (whole_file_of w phys t) ∷ []) (first_refusal (save_whole_checks w phys t (length f))) (f₁ ∷ []) (f ∷ [])
+        ((whole_file_of w phys t ++ drop (length (whole_file_of w phys t)) f) ∷ []) e
         (ap (λ (m : ℕ). answer (m ∷ [])) en)
         (ap (λ (u : List ℕ). u ∷ []) (wrote_front f f₁ end (whole_file_of w phys t) p fits))

@@ -5,6 +5,7 @@ ghost use Rattle.std.specs.Prelude.{◌≡◌, true, [], ◌∷◌, ◌+◌, ◌
 ghost use Rattle.permit.specs.Permission.{Width, Table};
 ghost use Rattle.tables.specs.Refusals.{first_refusal};
 ghost use Rattle.tables.specs.Outcome.{out};
+ghost use Rattle.tables.specs.Numbers.{refused};
 ghost use Rattle.tables.specs.Phys.{phy_record, phy_count};
 ghost use Rattle.lines.specs.Written.{Wrote};
 ghost use Rattle.file_phys.specs.Block.{numbered, all_writable, rezoned};
@@ -12,32 +13,33 @@ ghost use Rattle.file_trailer.specs.Trailer.{count_of};
 ghost use Rattle.file_trailer.specs.Answers.{saved_as, loaded_as};
 ghost use Rattle.version_2.specs.Version2.{whole_file_of, save_whole_checks, save_whole_out, phys_of, block_in, block_checks, whole_checks, version_checks, load_whole_checks, load_whole_out, Measured};
 
-use file_trailer::{FILE_ROOM, Loaded, Saved, TRAILER};
-use tables::{PHY_RECORD, WRONG_SIZE};
+use file_trailer::{FILE_ROOM, TRAILER, Version};
+use tables::PHY_RECORD;
+use tables::refusal::Refusal;
 
 // The bytes of the trailer, with the count of phys at its front.
 const WHOLE_TRAILER: usize = 14;
 
-fn save_refusal(width: usize, phys: &[u8], permissions: &[u8], room: usize) -> u8
+fn check_save(width: usize, phys: &[u8], permissions: &[u8], room: usize) -> Result<(), Refusal>
     requires { Width width }
-    ensures { result ≡ first_refusal (save_whole_checks width phys.now permissions.now room) }
+    ensures { refused result ≡ first_refusal (save_whole_checks width phys.now permissions.now room) }
 {
     if !tables::phys_sized(phys) {
-        return WRONG_SIZE;
+        return Err(Refusal::WrongSize);
     }
     if !permit::permissions_sized(width, permissions) {
-        return WRONG_SIZE;
+        return Err(Refusal::WrongSize);
     }
     if room < FILE_ROOM {
-        return file_trailer::NO_ROOM;
+        return Err(Refusal::NoRoom);
     }
     if !file_pairs::is_described(width, permissions) {
-        return file_trailer::PERMISSIONS_NOT_AS_DESCRIBED;
+        return Err(Refusal::PermissionsNotAsDescribed);
     }
     if !file_phys::are_phys_writable(width, phys) {
-        return file_trailer::PHYS_NOT_AS_DESCRIBED;
+        return Err(Refusal::PhysNotAsDescribed);
     }
-    0
+    Ok(())
 }
 
 fn write_file(width: usize, phys: &[u8], permissions: &[u8], file: &mut [u8]) -> usize
@@ -58,16 +60,18 @@ fn write_file(width: usize, phys: &[u8], permissions: &[u8], file: &mut [u8]) ->
 }
 
 // Writes the file of both tables and answers its length.
-pub fn save_version_2_at(width: usize, phys: &[u8], permissions: &[u8], file: &mut [u8]) -> Saved
+pub fn save_version_2_at(
+    width: usize,
+    phys: &[u8],
+    permissions: &[u8],
+    file: &mut [u8],
+) -> Result<u32, Refusal>
     requires { Width width }
     ensures { out (saved_as result) (file.new ∷ []) ≡ save_whole_out width phys.now permissions.now file.old }
 {
-    let no = save_refusal(width, phys, permissions, file.len());
-    if no != 0 {
-        return Saved::Refused(no);
-    }
+    check_save(width, phys, permissions, file.len())?;
     let end = write_file(width, phys, permissions, file);
-    Saved::Written(end as u32)
+    Ok(end as u32)
 }
 
 // The count at the front of the trailer.
@@ -105,69 +109,66 @@ fn is_block_writable(width: usize, file: &[u8]) -> bool
 }
 
 // Each cause is looked for in the whole file before the next.
-fn block_refusal(width: usize, phys: &[u8], file: &[u8]) -> u8
+fn check_block(width: usize, phys: &[u8], file: &[u8]) -> Result<(), Refusal>
     requires { Width width × Measured file.now }
-    ensures { result ≡ first_refusal (block_checks width phys.now file.now) }
+    ensures { refused result ≡ first_refusal (block_checks width phys.now file.now) }
 {
     let count = phys.len() / PHY_RECORD;
     if phys_of(file) != count as u64 {
-        return file_trailer::PHY_COUNT_DISAGREES;
+        return Err(Refusal::PhyCountDisagrees);
     }
     if !version_1::are_pairs_ascending(width, file) {
-        return file_trailer::BAD_PAIR;
+        return Err(Refusal::BadPair);
     }
     if !is_block_numbered(file, count) {
-        return file_trailer::BAD_PHY;
+        return Err(Refusal::BadPhy);
     }
     if !is_block_writable(width, file) {
-        return file_trailer::BAD_ZONE;
+        return Err(Refusal::BadZone);
     }
-    0
+    Ok(())
 }
 
-fn whole_refusal(width: usize, phys: &[u8], file: &[u8]) -> u8
+fn check_whole(width: usize, phys: &[u8], file: &[u8]) -> Result<(), Refusal>
     requires { Width width × (12 ≤ length file.now) }
-    ensures { result ≡ first_refusal (whole_checks width phys.now file.now) }
+    ensures { refused result ≡ first_refusal (whole_checks width phys.now file.now) }
 {
     if file.len() < WHOLE_TRAILER {
-        return file_trailer::LENGTHS_DISAGREE;
+        return Err(Refusal::LengthsDisagree);
     }
-    let no = file_trailer::lengths_refusal(file, 3 * phys_of(file) + WHOLE_TRAILER as u64);
-    if no != 0 {
-        return no;
-    }
-    block_refusal(width, phys, file)
+    file_trailer::check_lengths(file, 3 * phys_of(file) + WHOLE_TRAILER as u64)?;
+    check_block(width, phys, file)
 }
 
 // A file of version 1 is judged as by its own reader.
-fn version_refusal(width: usize, phys: &[u8], file: &[u8]) -> u8
+fn check_version(width: usize, phys: &[u8], file: &[u8]) -> Result<(), Refusal>
     requires { Width width × (12 ≤ length file.now) }
-    ensures { result ≡ first_refusal (version_checks width phys.now file.now) }
+    ensures { refused result ≡ first_refusal (version_checks width phys.now file.now) }
 {
     let version = file_trailer::version_of(file);
     if version == 1 {
-        return version_1::pairs_refusal(width, file);
+        return version_1::check_pairs(width, file);
     }
     if version != 2 {
-        return file_trailer::VERSION_UNKNOWN;
+        return Err(Refusal::VersionUnknown);
     }
-    whole_refusal(width, phys, file)
+    check_whole(width, phys, file)
 }
 
-fn load_refusal(width: usize, phys: &[u8], permissions: &[u8], file: &[u8]) -> u8
+fn check_load(width: usize, phys: &[u8], permissions: &[u8], file: &[u8]) -> Result<(), Refusal>
     requires { Width width }
-    ensures { result ≡ first_refusal (load_whole_checks width phys.now permissions.now file.now) }
+    ensures { refused result ≡ first_refusal (load_whole_checks width phys.now permissions.now file.now) }
 {
     if !tables::phys_sized(phys) {
-        return WRONG_SIZE;
+        return Err(Refusal::WrongSize);
     }
     if !permit::permissions_sized(width, permissions) {
-        return WRONG_SIZE;
+        return Err(Refusal::WrongSize);
     }
     if file.len() < TRAILER {
-        return file_trailer::TOO_SHORT;
+        return Err(Refusal::TooShort);
     }
-    version_refusal(width, phys, file)
+    check_version(width, phys, file)
 }
 
 fn restore_phys(phys: &mut [u8], file: &[u8])
@@ -185,30 +186,31 @@ pub fn load_version_2_at(
     phys: &mut [u8],
     permissions: &mut [u8],
     file: &[u8],
-) -> Loaded
+) -> Result<Version, Refusal>
     requires { Width width }
     ensures { out (loaded_as result) (phys.new ∷ permissions.new ∷ []) ≡ load_whole_out width phys.old permissions.old file.now }
 {
-    let refusal = load_refusal(width, phys, permissions, file);
-    if refusal != 0 {
-        return Loaded::Refused(refusal);
-    }
+    check_load(width, phys, permissions, file)?;
     version_1::restore_pairs(width, permissions, file);
     if file_trailer::version_of(file) == 1 {
-        return Loaded::Version(1);
+        return Ok(Version::One);
     }
     restore_phys(phys, file);
-    Loaded::Version(2)
+    Ok(Version::Two)
 }
 
 // Document 01's shelf.
-pub fn save_version_2(phys: &[u8], permissions: &[u8], file: &mut [u8]) -> Saved
+pub fn save_version_2(phys: &[u8], permissions: &[u8], file: &mut [u8]) -> Result<u32, Refusal>
     ensures { out (saved_as result) (file.new ∷ []) ≡ save_whole_out 16 phys.now permissions.now file.old }
 {
     save_version_2_at(16, phys, permissions, file)
 }
 
-pub fn load_version_2(phys: &mut [u8], permissions: &mut [u8], file: &[u8]) -> Loaded
+pub fn load_version_2(
+    phys: &mut [u8],
+    permissions: &mut [u8],
+    file: &[u8],
+) -> Result<Version, Refusal>
     ensures { out (loaded_as result) (phys.new ∷ permissions.new ∷ []) ≡ load_whole_out 16 phys.old permissions.old file.now }
 {
     load_version_2_at(16, phys, permissions, file)

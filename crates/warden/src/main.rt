@@ -3,18 +3,20 @@
 #![tactic(auto)]
 
 ghost use Rattle.std.specs.Prelude.{◌≡◌, ◌+◌, ◌<◌, ◌≤◌, length};
+ghost use Rattle.std.specs.ControlFlow.{MatchControlFlow};
 
 use std::io::{Read, Write};
+use std::ops::ControlFlow;
 
 // The unread bytes of the window are those from `at` up to `have`; `number` is the next line's. While `skipping`, what comes up to the
 // next line end belongs to a line that was answered as too long.
-#[derive(Clone, Copy)]
-struct Window {
+#[derive(Clone, Copy, Debug, PartialEq, Eq)]
+struct Unread {
     at: usize,
     have: usize,
     number: u64,
     skipping: bool,
-    go: bool,
+    ghost ordered: { at ≤ have },
 }
 
 // A write that fails is passed over, here and below: the lines behind it are answered all the same.
@@ -25,7 +27,7 @@ fn answer<W: Write>(writer: &mut W, line: &[u8], number: u64, skipping: bool, te
         return;
     }
     let n = warden_lines::answer_line(line, number, text);
-    let _ = writer.write_all(&text[0..n]);
+    let _ = writer.write_all(&text[..n]);
 }
 
 fn too_long<W: Write>(writer: &mut W, number: u64, skipping: bool, text: &mut [u8])
@@ -35,40 +37,42 @@ fn too_long<W: Write>(writer: &mut W, number: u64, skipping: bool, text: &mut [u
         return;
     }
     let n = warden_text::put_too_long(number, text);
-    let _ = writer.write_all(&text[0..n]);
+    let _ = writer.write_all(&text[..n]);
 }
 
-// No line ends in the window: more is read, or, where it is full, its line is too long. The input's end is a refill that brings nothing.
+// No line ends in the window: more is read, or, where it is full, its line is too long. The input ends with a refill that brings nothing: what is
+// then unread is the last line.
 fn more<R: Read, W: Write>(
     reader: &mut R,
     writer: &mut W,
     window: &mut [u8],
     text: &mut [u8],
-    at: usize,
-    have: usize,
-    number: u64,
-    skipping: bool,
-) -> Window
-    requires { (at ≤ have) × (have ≤ length window.old) × (65536 ≤ length text.old) }
-    ensures { (result.at ≤ result.have) × (result.have ≤ length window.new) × (result.number ≡ number) }
+    unread: Unread,
+) -> ControlFlow<Unread, Unread>
+    requires { (unread.have ≤ length window.old) × (65536 ≤ length text.old) }
+    ensures { MatchControlFlow result (λ next. (next.have ≤ length window.new) × (next.number ≡ unread.number)) (λ last. (last.have ≤ length window.new) × (last.number ≡ unread.number)) }
 {
-    if have - at == window.len() {
-        too_long(writer, number, skipping, text);
-        return Window {
+    let left = unread.have - unread.at;
+    if left == window.len() {
+        too_long(writer, unread.number, unread.skipping, text);
+        return ControlFlow::Continue(Unread {
             at: 0,
             have: 0,
-            number,
+            number: unread.number,
             skipping: true,
-            go: true,
-        };
+        });
     }
-    let now_have = window::refill(reader, window, at, have);
-    Window {
+    let have = window::refill(reader, window, unread.at, unread.have);
+    let refilled = Unread {
         at: 0,
-        have: now_have,
-        number,
-        skipping,
-        go: have - at < now_have,
+        have,
+        number: unread.number,
+        skipping: unread.skipping,
+    };
+    if left < have {
+        ControlFlow::Continue(refilled)
+    } else {
+        ControlFlow::Break(refilled)
     }
 }
 
@@ -77,48 +81,66 @@ fn turn<R: Read, W: Write>(
     writer: &mut W,
     window: &mut [u8],
     text: &mut [u8],
-    at: usize,
-    have: usize,
-    number: u64,
-    skipping: bool,
-) -> Window
-    requires { (at ≤ have) × (have ≤ length window.old) × (65536 ≤ length text.old) × (number + 1 < 18446744073709551616) }
-    ensures { (result.at ≤ result.have) × (result.have ≤ length window.new) × (result.number ≤ number + 1) }
+    unread: Unread,
+) -> ControlFlow<Unread, Unread>
+    requires { (unread.have ≤ length window.old) × (65536 ≤ length text.old) × (unread.number + 1 < 18446744073709551616) }
+    ensures { MatchControlFlow result (λ next. (next.have ≤ length window.new) × (next.number ≤ unread.number + 1)) (λ last. (last.have ≤ length window.new) × (last.number ≤ unread.number + 1)) }
 {
-    let end = warden_words::line_end(&window[0..have], at);
-    if end < have {
-        answer(writer, &window[at..end], number, skipping, text);
-        return Window {
+    let end = warden_words::line_end(&window[..unread.have], unread.at);
+    if end < unread.have {
+        answer(
+            writer,
+            &window[unread.at..end],
+            unread.number,
+            unread.skipping,
+            text,
+        );
+        return ControlFlow::Continue(Unread {
             at: end + 1,
-            have,
-            number: number + 1,
+            have: unread.have,
+            number: unread.number + 1,
             skipping: false,
-            go: true,
-        };
+        });
     }
-    more(reader, writer, window, text, at, have, number, skipping)
+    more(reader, writer, window, text, unread)
 }
 
-// Answers all lines. `left` shows that the loop ends and that the numbers fit: no input has as many lines.
+// Answers all lines that end, and gives what is unread then. The turns are counted so that the loop ends and the numbers fit: no input has as many lines.
+fn answer_ended<R: Read, W: Write>(
+    reader: &mut R,
+    writer: &mut W,
+    window: &mut [u8],
+    text: &mut [u8],
+) -> Unread
+    requires { 65536 ≤ length text.old }
+    ensures { result.have ≤ length window.new }
+{
+    let mut unread = Unread {
+        at: 0,
+        have: 0,
+        number: 1,
+        skipping: false,
+    };
+    for _turn in 1..u64::MAX {
+        match turn(reader, writer, window, text, unread) {
+            ControlFlow::Continue(next) => unread = next,
+            ControlFlow::Break(last) => return last,
+        }
+    }
+    unread
+}
+
 fn run<R: Read, W: Write>(reader: &mut R, writer: &mut W, window: &mut [u8], text: &mut [u8])
     requires { 65536 ≤ length text.old }
 {
-    let mut number: u64 = 1;
-    let mut left = u64::MAX - 1;
-    let mut at: usize = 0;
-    let mut have: usize = 0;
-    let mut skipping = false;
-    let mut go = true;
-    while left > 0 && go {
-        left -= 1;
-        let w = turn(reader, writer, window, text, at, have, number, skipping);
-        number = w.number;
-        at = w.at;
-        have = w.have;
-        skipping = w.skipping;
-        go = w.go;
-    }
-    answer(writer, &window[at..have], number, skipping, text);
+    let last = answer_ended(reader, writer, window, text);
+    answer(
+        writer,
+        &window[last.at..last.have],
+        last.number,
+        last.skipping,
+        text,
+    );
 }
 
 fn main(rt: HostRuntime) {

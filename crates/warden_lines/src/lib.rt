@@ -1,115 +1,97 @@
 // A warden's line in plain words: which order it is, or which response, and what the console makes of it.
 #![tactic(auto)]
 
-ghost use Rattle.std.specs.Prelude.{◌≡◌, ◌+◌, ◌*◌, ◌<◌, ◌≤◌, length, set};
+ghost use Rattle.std.specs.Prelude.{◌≡◌, ◌+◌, ◌*◌, ◌<◌, ◌≤◌, length, set, IfSome};
+ghost use Rattle.wire.specs.Bits.{num};
 
 use warden_words::Read;
 use wire::{PhyNumber, ZoneGroup};
 
+// Whether a pair is switched on or off.
+#[derive(Clone, Copy, Debug, PartialEq, Eq)]
+struct Switch {
+    on: bool,
+    next: usize,
+}
+
 // What the words after a phy's group say.
-#[derive(Clone, Copy)]
+#[derive(Clone, Copy, Debug, PartialEq, Eq)]
 struct Traits {
-    participating: u8,
+    participating: bool,
     priority: u8,
     next: usize,
 }
 
 // Where a batch's rows have come to; `high`: a group was above 127.
-#[derive(Clone, Copy)]
+#[derive(Clone, Copy, Debug, PartialEq, Eq)]
 struct Spot {
-    next: usize,
+    at: usize,
     row: usize,
     high: bool,
 }
 
-// How many entries, rows or bytes were taken; not `whole` where a word was in the way.
-#[derive(Clone, Copy)]
-struct Taken {
-    whole: bool,
+// How many rows a batch has; `high`: a group was above 127.
+#[derive(Clone, Copy, Debug, PartialEq, Eq)]
+struct Rows {
     count: usize,
     high: bool,
 }
 
-// ---- orders: each answers 0 where the line is not of its form
+// ---- orders: each answers None where the line is not of its form
 
-fn switch_at(line: &[u8], at: usize) -> Read
+fn switch_at(line: &[u8], at: usize) -> Option<Switch>
     requires { at ≤ length line.now }
-    ensures { (at ≤ result.next) × (result.next ≤ length line.now) }
+    ensures { IfSome result (λ switch. (at ≤ switch.next) × (switch.next ≤ length line.now)) }
 {
-    let on = warden_words::past_word(line, at, b"on");
-    if on != at {
-        return Read { value: 1, next: on };
+    if let Some(next) = warden_words::past_word(line, at, b"on") {
+        return Some(Switch { on: true, next });
     }
-    Read {
-        value: 0,
-        next: warden_words::past_word(line, at, b"off"),
-    }
+    let next = warden_words::past_word(line, at, b"off")?;
+    Some(Switch { on: false, next })
 }
 
-fn single_order(line: &[u8], at: usize, number: u64, text: &mut [u8]) -> usize
+fn single_order(line: &[u8], at: usize, number: u64, text: &mut [u8]) -> Option<usize>
     requires { (at ≤ length line.now) × (65536 ≤ length text.old) }
-    ensures { result ≤ length text.new }
+    ensures { IfSome result (λ end. end ≤ length text.new) }
 {
-    let a = warden_words::number_at(line, at);
-    if a.next == at {
-        return 0;
-    }
-    let b = warden_words::number_at(line, a.next);
-    if b.next == a.next {
-        return 0;
-    }
-    let s = switch_at(line, b.next);
-    if s.next == b.next {
-        return 0;
-    }
-    let end = warden_words::past_word(line, s.next, b"complete");
-    if end < line.len() {
-        return 0;
+    let a = warden_words::number_at(line, at)?;
+    let b = warden_words::number_at(line, a.next)?;
+    let switch = switch_at(line, b.next)?;
+    let complete = warden_words::past_word(line, switch.next, b"complete");
+    if complete.unwrap_or(switch.next) < line.len() {
+        return None;
     }
     let mut request = [0u8; 1020];
     let built = console_orders::single(
         &mut request,
         ZoneGroup(a.value),
         ZoneGroup(b.value),
-        s.value == 1,
-        end != s.next,
+        switch.on,
+        complete.is_some(),
     );
-    warden_text::put_built(built, &request, number, text)
+    Some(warden_text::put_built(built, &request, number, text))
 }
 
-fn report_order(line: &[u8], at: usize, number: u64, text: &mut [u8]) -> usize
+fn report_order(line: &[u8], at: usize, number: u64, text: &mut [u8]) -> Option<usize>
     requires { (at ≤ length line.now) × (65536 ≤ length text.old) }
-    ensures { result ≤ length text.new }
+    ensures { IfSome result (λ end. end ≤ length text.new) }
 {
-    let first = warden_words::number_at(line, at);
-    if first.next == at {
-        return 0;
-    }
-    let count = warden_words::number_at(line, first.next);
-    if count.next == first.next {
-        return 0;
-    }
+    let first = warden_words::number_at(line, at)?;
+    let count = warden_words::number_at(line, first.next)?;
     if count.next < line.len() {
-        return 0;
+        return None;
     }
     let mut request = [0u8; 1020];
     let built = console_orders::report(&mut request, ZoneGroup(first.value), count.value);
-    warden_text::put_built(built, &request, number, text)
+    Some(warden_text::put_built(built, &request, number, text))
 }
 
-fn priority_at(line: &[u8], at: usize) -> Read
+fn priority_at(line: &[u8], at: usize) -> Option<Read>
     requires { at ≤ length line.now }
-    ensures { (at ≤ result.next) × (result.next ≤ length line.now) }
+    ensures { IfSome result (λ read. (at ≤ read.next) × (read.next ≤ length line.now)) }
 {
-    let after = warden_words::past_word(line, at, b"priority");
-    if after == at {
-        return Read { value: 0, next: at };
-    }
-    let n = warden_words::number_at(line, after);
-    if n.next == after {
-        return Read { value: 0, next: at };
-    }
-    n
+    let after = warden_words::past_word(line, at, b"priority")?;
+    warden_words::number_at(line, after)
 }
 
 // The words on a phy, each at most once, in either order.
@@ -117,365 +99,248 @@ fn traits_at(line: &[u8], at: usize) -> Traits
     requires { at ≤ length line.now }
     ensures { (at ≤ result.next) × (result.next ≤ length line.now) }
 {
-    let a = warden_words::past_word(line, at, b"participating");
-    let p = priority_at(line, a);
-    if a != at {
+    let first = warden_words::past_word(line, at, b"participating");
+    let from = first.unwrap_or(at);
+    let Read {
+        value: priority,
+        next,
+    } = priority_at(line, from).unwrap_or(Read {
+        value: 0,
+        next: from,
+    });
+    if first.is_some() {
         return Traits {
-            participating: 1,
-            priority: p.value,
-            next: p.next,
+            participating: true,
+            priority,
+            next,
         };
     }
-    let b = warden_words::past_word(line, p.next, b"participating");
+    let last = warden_words::past_word(line, next, b"participating");
     Traits {
-        participating: (b != p.next) as u8,
-        priority: p.value,
-        next: b,
+        participating: last.is_some(),
+        priority,
+        next: last.unwrap_or(next),
     }
 }
 
-fn put_entry(entries: &mut [u8], k: usize, participating: u8, priority: u8, group: u8)
+fn put_entry(entries: &mut [u8], k: usize, traits: Traits, group: u8)
     requires { (k < 129) × (387 ≤ length entries.old) }
-    ensures { entries.new ≡ set (set (set entries.old (3 * k) participating) (3 * k + 1) priority) (3 * k + 2) group }
+    ensures { entries.new ≡ set (set (set entries.old (3 * k) (num traits.participating)) (3 * k + 1) traits.priority) (3 * k + 2) group }
 {
-    entries[3 * k] = participating;
-    entries[3 * k + 1] = priority;
+    entries[3 * k] = traits.participating as u8;
+    entries[3 * k + 1] = traits.priority;
     entries[3 * k + 2] = group;
 }
 
-fn take_phy(line: &[u8], at: usize, entries: &mut [u8], k: usize) -> usize
+fn take_phy(line: &[u8], at: usize, entries: &mut [u8], k: usize) -> Option<usize>
     requires { (at ≤ length line.now) × (k < 129) × (387 ≤ length entries.old) }
-    ensures { (at ≤ result) × (result ≤ length line.now) }
+    ensures { IfSome result (λ next. (at < next) × (next ≤ length line.now)) }
 {
-    let group = warden_words::number_at(line, at);
-    if group.next == at {
-        return at;
-    }
-    let t = traits_at(line, group.next);
-    put_entry(entries, k, t.participating, t.priority, group.value);
-    t.next
+    let group = warden_words::number_at(line, at)?;
+    let traits = traits_at(line, group.next);
+    put_entry(entries, k, traits, group.value);
+    Some(traits.next)
 }
 
-// From the 129th on all go into one place: the console refuses 129.
-fn take_phys(line: &[u8], from: usize, entries: &mut [u8]) -> Taken
+// Answers how many entries there are. From the 129th on all go into one place: the console refuses 129.
+fn take_phys(line: &[u8], from: usize, entries: &mut [u8]) -> Option<usize>
     requires { (from ≤ length line.now) × (387 ≤ length entries.old) }
-    ensures { result.count ≤ 129 }
+    ensures { IfSome result (λ count. count ≤ 129) }
 {
     let mut at = from;
     let mut count: usize = 0;
+    // By hand: only the word that is taken says where the next one starts.
     while at < line.len() {
-        let k = warden_words::least(count, 128);
-        let next = take_phy(line, at, entries, k);
-        if next == at {
-            return Taken {
-                whole: false,
-                count: 0,
-                high: false,
-            };
-        }
-        at = next;
+        let k = count.min(128);
+        at = take_phy(line, at, entries, k)?;
         count = k + 1;
     }
-    Taken {
-        whole: true,
-        count,
-        high: false,
-    }
+    Some(count)
 }
 
-fn phys_order(line: &[u8], at: usize, number: u64, text: &mut [u8]) -> usize
+fn phys_order(line: &[u8], at: usize, number: u64, text: &mut [u8]) -> Option<usize>
     requires { (at ≤ length line.now) × (65536 ≤ length text.old) }
-    ensures { result ≤ length text.new }
+    ensures { IfSome result (λ end. end ≤ length text.new) }
 {
-    let first = warden_words::number_at(line, at);
-    if first.next == at {
-        return 0;
-    }
+    let first = warden_words::number_at(line, at)?;
     let mut entries = [0u8; 387];
-    let t = take_phys(line, first.next, &mut entries);
-    if !t.whole {
-        return 0;
-    }
-    let n = 3 * t.count;
+    let count = take_phys(line, first.next, &mut entries)?;
     let mut request = [0u8; 1020];
-    let built = console_zones::phy_zones(&mut request, PhyNumber(first.value), &entries[0..n]);
-    warden_text::put_built(built, &request, number, text)
+    let built = console_zones::phy_zones(
+        &mut request,
+        PhyNumber(first.value),
+        &entries[..3 * count],
+    );
+    Some(warden_text::put_built(built, &request, number, text))
 }
 
 // From the 64th row on all go into one place: the console refuses 64.
-fn take_group(line: &[u8], at: usize, choices: &mut [u8], row: usize) -> Spot
-    requires { (at ≤ length line.now) × (row < 64) × (8192 ≤ length choices.old) }
-    ensures { (at ≤ result.next) × (result.next ≤ length line.now) × (result.row < 64) }
+fn take_group(line: &[u8], spot: Spot, choices: &mut [u8]) -> Option<Spot>
+    requires { (spot.at ≤ length line.now) × (spot.row < 64) × (8192 ≤ length choices.old) }
+    ensures { IfSome result (λ then. (spot.at < then.at) × (then.at ≤ length line.now) × (then.row < 64)) }
 {
-    let bar = warden_words::past_word(line, at, b"|");
-    if bar != at {
-        return Spot {
-            next: bar,
-            row: warden_words::least(row + 1, 63),
-            high: false,
-        };
+    if let Some(at) = warden_words::past_word(line, spot.at, b"|") {
+        let row = (spot.row + 1).min(63);
+        return Some(Spot { at, row, ..spot });
     }
-    let group = warden_words::number_at(line, at);
+    let group = warden_words::number_at(line, spot.at)?;
     if 127 < group.value {
-        return Spot {
-            next: group.next,
-            row,
+        return Some(Spot {
+            at: group.next,
             high: true,
-        };
+            ..spot
+        });
     }
-    if group.next == at {
-        return Spot {
-            next: at,
-            row,
-            high: false,
-        };
-    }
-    choices[128 * row + wire::index(group.value)] = 1;
-    Spot {
-        next: group.next,
-        row,
-        high: false,
-    }
+    choices[128 * spot.row + wire::index(group.value)] = 1;
+    Some(Spot {
+        at: group.next,
+        ..spot
+    })
 }
 
-fn either(a: bool, b: bool) -> bool {
-    if a {
-        return true;
-    }
-    b
-}
-
-fn take_rows(line: &[u8], from: usize, choices: &mut [u8]) -> Taken
+fn take_rows(line: &[u8], from: usize, choices: &mut [u8]) -> Option<Rows>
     requires { (from ≤ length line.now) × (8192 ≤ length choices.old) }
-    ensures { result.count ≤ 64 }
+    ensures { IfSome result (λ rows. rows.count ≤ 64) }
 {
-    let mut at = from;
-    let mut row: usize = 0;
-    let mut high = false;
-    while at < line.len() {
-        let s = take_group(line, at, choices, row);
-        if s.next == at {
-            return Taken {
-                whole: false,
-                count: 0,
-                high,
-            };
-        }
-        at = s.next;
-        row = s.row;
-        high = either(high, s.high);
+    let mut spot = Spot {
+        at: from,
+        row: 0,
+        high: false,
+    };
+    // By hand: only the word that is taken says where the next one starts.
+    while spot.at < line.len() {
+        spot = take_group(line, spot, choices)?;
     }
-    Taken {
-        whole: true,
-        count: row + 1,
-        high,
-    }
+    Some(Rows {
+        count: spot.row + 1,
+        high: spot.high,
+    })
 }
 
 // The rows behind a colon; without one there are none.
-fn rows_at(line: &[u8], at: usize, choices: &mut [u8]) -> Taken
+fn rows_at(line: &[u8], at: usize, choices: &mut [u8]) -> Option<Rows>
     requires { (at ≤ length line.now) × (8192 ≤ length choices.old) }
-    ensures { result.count ≤ 64 }
+    ensures { IfSome result (λ rows. rows.count ≤ 64) }
 {
-    let from = warden_words::past_word(line, at, b":");
-    if from == at {
-        return Taken {
-            whole: at == line.len(),
-            count: 0,
-            high: false,
-        };
+    if let Some(from) = warden_words::past_word(line, at, b":") {
+        return take_rows(line, from, choices);
     }
-    take_rows(line, from, choices)
+    if at < line.len() {
+        return None;
+    }
+    Some(Rows {
+        count: 0,
+        high: false,
+    })
 }
 
 // A row has no place for a group above 127. The first group then says so in its place, and the console answers 22 or 23.
 fn first_group(value: u8, high: bool) -> ZoneGroup {
     if high {
-        return ZoneGroup(255);
+        ZoneGroup(255)
+    } else {
+        ZoneGroup(value)
     }
-    ZoneGroup(value)
 }
 
-fn batch_order(line: &[u8], at: usize, number: u64, text: &mut [u8]) -> usize
+fn batch_order(line: &[u8], at: usize, number: u64, text: &mut [u8]) -> Option<usize>
     requires { (at ≤ length line.now) × (65536 ≤ length text.old) }
-    ensures { result ≤ length text.new }
+    ensures { IfSome result (λ end. end ≤ length text.new) }
 {
-    let first = warden_words::number_at(line, at);
-    if first.next == at {
-        return 0;
-    }
+    let first = warden_words::number_at(line, at)?;
     let complete = warden_words::past_word(line, first.next, b"complete");
     let mut choices = [0u8; 8192];
-    let t = rows_at(line, complete, &mut choices);
-    if !t.whole {
-        return 0;
-    }
-    let n = 128 * t.count;
+    let rows = rows_at(line, complete.unwrap_or(first.next), &mut choices)?;
     let mut request = [0u8; 1020];
     let built = console_rows::batch(
         &mut request,
-        first_group(first.value, t.high),
-        &choices[0..n],
-        complete != first.next,
+        first_group(first.value, rows.high),
+        &choices[..128 * rows.count],
+        complete.is_some(),
     );
-    warden_text::put_built(built, &request, number, text)
+    Some(warden_text::put_built(built, &request, number, text))
 }
 
-// From byte 1,021 on all go into one place: no response is as long.
-fn take_bytes(line: &[u8], from: usize, bytes: &mut [u8]) -> Taken
+// Answers how many bytes there are. From byte 1,021 on all go into one place: no response is as long.
+fn take_bytes(line: &[u8], from: usize, bytes: &mut [u8]) -> Option<usize>
     requires { (from ≤ length line.now) × (1021 ≤ length bytes.old) }
-    ensures { result.count ≤ 1021 }
+    ensures { IfSome result (λ count. count ≤ 1021) }
 {
     let mut at = from;
     let mut count: usize = 0;
+    // By hand: only the word that is taken says where the next one starts.
     while at < line.len() {
-        let b = warden_words::hex_at(line, at);
-        if b.next == at {
-            return Taken {
-                whole: false,
-                count: 0,
-                high: false,
-            };
-        }
-        let k = warden_words::least(count, 1020);
-        bytes[k] = b.value;
-        at = b.next;
+        let byte = warden_words::hex_at(line, at)?;
+        let k = count.min(1020);
+        bytes[k] = byte.value;
+        at = byte.next;
         count = k + 1;
     }
-    Taken {
-        whole: true,
-        count,
-        high: false,
-    }
+    Some(count)
 }
 
-fn response_order(line: &[u8], at: usize, number: u64, text: &mut [u8]) -> usize
+fn response_order(line: &[u8], at: usize, number: u64, text: &mut [u8]) -> Option<usize>
     requires { (at ≤ length line.now) × (65536 ≤ length text.old) }
-    ensures { result ≤ length text.new }
+    ensures { IfSome result (λ end. end ≤ length text.new) }
 {
     let mut bytes = [0u8; 1021];
-    let t = take_bytes(line, at, &mut bytes);
-    if !t.whole {
-        return 0;
-    }
-    let n = t.count;
-    if n == 0 {
-        return 0;
+    let count = take_bytes(line, at, &mut bytes)?;
+    if count == 0 {
+        return None;
     }
     let mut rows = [0u8; 8064];
-    let heard = console_reading::read(&bytes[0..n], &mut rows);
-    warden_text::put_heard(heard, &rows, number, text)
+    let heard = console_reading::read(&bytes[..count], &mut rows);
+    Some(warden_text::put_heard(heard, &rows, number, text))
 }
 
 // ---- lines
 
 // What is expected where no answer was made.
-fn or_wrong(n: usize, form: &[u8], number: u64, text: &mut [u8]) -> usize
-    requires { (n ≤ length text.old) × (65536 ≤ length text.old) × (length form.now ≤ 128) }
+fn or_wrong(answered: Option<usize>, form: &[u8], number: u64, text: &mut [u8]) -> usize
+    requires { IfSome answered (λ end. end ≤ length text.old) × (65536 ≤ length text.old) × (length form.now ≤ 128) }
     ensures { result ≤ length text.new }
 {
-    if 0 < n {
-        return n;
+    match answered {
+        Some(end) => end,
+        None => warden_text::put_wrong(form, number, text),
     }
-    warden_text::put_wrong(form, number, text)
-}
-
-fn put_unknown(number: u64, text: &mut [u8]) -> usize
-    requires { 65536 ≤ length text.old }
-    ensures { result ≤ length text.new }
-{
-    warden_text::put_wrong(b"single, phys, batch, report or response", number, text)
-}
-
-fn single_line(line: &[u8], at: usize, number: u64, text: &mut [u8]) -> usize
-    requires { (at ≤ length line.now) × (65536 ≤ length text.old) }
-    ensures { result ≤ length text.new }
-{
-    let n = single_order(line, at, number, text);
-    or_wrong(n, b"single A B on|off [complete]", number, text)
-}
-
-fn phys_line(line: &[u8], at: usize, number: u64, text: &mut [u8]) -> usize
-    requires { (at ≤ length line.now) × (65536 ≤ length text.old) }
-    ensures { result ≤ length text.new }
-{
-    let n = phys_order(line, at, number, text);
-    or_wrong(
-        n,
-        b"phys FIRST {GROUP [participating] [priority N]}",
-        number,
-        text,
-    )
-}
-
-fn batch_line(line: &[u8], at: usize, number: u64, text: &mut [u8]) -> usize
-    requires { (at ≤ length line.now) × (65536 ≤ length text.old) }
-    ensures { result ≤ length text.new }
-{
-    let n = batch_order(line, at, number, text);
-    or_wrong(
-        n,
-        b"batch FIRST [complete] [: {GROUP} { | {GROUP} }]",
-        number,
-        text,
-    )
-}
-
-fn report_line(line: &[u8], at: usize, number: u64, text: &mut [u8]) -> usize
-    requires { (at ≤ length line.now) × (65536 ≤ length text.old) }
-    ensures { result ≤ length text.new }
-{
-    let n = report_order(line, at, number, text);
-    or_wrong(n, b"report FIRST COUNT", number, text)
-}
-
-fn response_line(line: &[u8], at: usize, number: u64, text: &mut [u8]) -> usize
-    requires { (at ≤ length line.now) × (65536 ≤ length text.old) }
-    ensures { result ≤ length text.new }
-{
-    let n = response_order(line, at, number, text);
-    or_wrong(n, b"response HEX HEX ..", number, text)
 }
 
 fn answer_order(line: &[u8], at: usize, number: u64, text: &mut [u8]) -> usize
     requires { (at ≤ length line.now) × (65536 ≤ length text.old) }
     ensures { result ≤ length text.new }
 {
-    let a = warden_words::past_word(line, at, b"single");
-    if a != at {
-        return single_line(line, a, number, text);
+    if let Some(next) = warden_words::past_word(line, at, b"single") {
+        let answered = single_order(line, next, number, text);
+        return or_wrong(answered, b"single A B on|off [complete]", number, text);
     }
-    let b = warden_words::past_word(line, at, b"phys");
-    if b != at {
-        return phys_line(line, b, number, text);
+    if let Some(next) = warden_words::past_word(line, at, b"phys") {
+        let answered = phys_order(line, next, number, text);
+        return or_wrong(
+            answered,
+            b"phys FIRST {GROUP [participating] [priority N]}",
+            number,
+            text,
+        );
     }
-    let c = warden_words::past_word(line, at, b"batch");
-    if c != at {
-        return batch_line(line, c, number, text);
+    if let Some(next) = warden_words::past_word(line, at, b"batch") {
+        let answered = batch_order(line, next, number, text);
+        return or_wrong(
+            answered,
+            b"batch FIRST [complete] [: {GROUP} { | {GROUP} }]",
+            number,
+            text,
+        );
     }
-    let d = warden_words::past_word(line, at, b"report");
-    if d != at {
-        return report_line(line, d, number, text);
+    if let Some(next) = warden_words::past_word(line, at, b"report") {
+        let answered = report_order(line, next, number, text);
+        return or_wrong(answered, b"report FIRST COUNT", number, text);
     }
-    let e = warden_words::past_word(line, at, b"response");
-    if e != at {
-        return response_line(line, e, number, text);
+    if let Some(next) = warden_words::past_word(line, at, b"response") {
+        let answered = response_order(line, next, number, text);
+        return or_wrong(answered, b"response HEX HEX ..", number, text);
     }
-    put_unknown(number, text)
-}
-
-// How many bytes a line has before the carriage return that some line ends begin with.
-fn trimmed(line: &[u8]) -> usize
-    ensures { result ≤ length line.now }
-{
-    let n = line.len();
-    if n == 0 {
-        return 0;
-    }
-    if line[n - 1] == b'\r' {
-        return n - 1;
-    }
-    n
+    warden_text::put_wrong(b"single, phys, batch, report or response", number, text)
 }
 
 fn answer_words(line: &[u8], number: u64, text: &mut [u8]) -> usize
@@ -489,11 +354,11 @@ fn answer_words(line: &[u8], number: u64, text: &mut [u8]) -> usize
     answer_order(line, at, number, text)
 }
 
-// Answers a line: its text, none for an empty line, is put at the text's front, and its length is the answer.
+// Answers a line: its text, none for an empty line, is put at the text's front, and its length is the answer. Some line ends begin with a carriage
+// return, which is no word of the line.
 pub fn answer_line(line: &[u8], number: u64, text: &mut [u8]) -> usize
     requires { 65536 ≤ length text.old }
     ensures { result ≤ length text.new }
 {
-    let n = trimmed(line);
-    answer_words(&line[0..n], number, text)
+    answer_words(line.strip_suffix(b"\r").unwrap_or(line), number, text)
 }

@@ -15,7 +15,7 @@ use Rattle.console_reading.specs.declared.Heard.{Heard}
 use Rattle.console_reading.specs.declared.Heard.TheVariants as told
 use Rattle.console_orders.specs.Building.{built_as, built_out}
 use Rattle.console_reading.specs.Reading.{heard_as, heard, rows_then, reports, start_of, count_of, unpacked}
-use Rattle.warden_text.specs.Room.{built_length, said_rows, heard_rows}
+use Rattle.warden_text.specs.Room.{built_length, heard_rows}
 
 -- a list of this length at the front of one that did not grow
 front : (bytes room : List ℕ) (n : ℕ) → length (bytes ++ drop (length bytes) room) ≡ n → n ≡ length room → length bytes ≤ n
@@ -50,16 +50,3 @@ heard_fits (Ok (told.Rows s k)) zero response rows rows₁ e h = go (reports res
         omega (arith, simp (length-append, length-drop, length-tab) at (ap length t))
     go false q = absurd (let z : ◌≡◌ {A = ℕ} 0 1 = cc in omega arith)
 heard_fits (Ok (told.Rows s k)) (suc n) response rows rows₁ e h = absurd (let z : ◌≡◌ {A = ℕ} 0 1 = cc in omega arith)
-
--- what is put out of a request that was built
-pub built_request : (b : Result ℕ Refusal) (m n t : ℕ) → b ≡ Ok m → (built_length b ≤ n) × (n ≤ 1020) × (65536 ≤ t) → (m ≤ n) × (3 * m ≤ t)
-built_request b m n t e h = let k : m ≤ n = rw e at h.0 in (k, omega arith)
-
--- what is put out of a report that was read
-pub said_heard : (r : Result Heard Refusal) (h : Heard) (n t : ℕ) → r ≡ Ok h → (128 * heard_rows r ≤ n) × (n ≤ 8064) × (65536 ≤ t)
-    → (128 * said_rows h ≤ n) × (n ≤ 8064) × (65536 ≤ t)
-said_heard r h n t e p = let m : 128 * said_rows h ≤ n = rw e at p.0 in (m, p.1, p.2)
-
-pub said_report : (r : Heard) (s k n t : ℕ) → r ≡ told.Rows s k → (128 * said_rows r ≤ n) × (n ≤ 8064) × (65536 ≤ t)
-    → (128 * k ≤ n) × (n ≤ 8064) × (65536 ≤ t)
-said_report r s k n t e h = let m : 128 * k ≤ n = rw e at h.0 in (m, h.1, h.2)

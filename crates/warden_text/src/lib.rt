@@ -1,5 +1,5 @@
 // What a warden is answered, as text: a request's bytes, a response in words, a refusal, and what was expected of a line. Each function answers where
-// the text then ends. Long texts have a function each: side by side they are slow to prove.
+// the text then ends.
 #![tactic(auto)]
 
 ghost use Rattle.std.specs.Prelude.{◌≡◌, ◌+◌, ◌*◌, ◌<◌, ◌≤◌, length};
@@ -34,68 +34,21 @@ pub fn put_too_long(number: u64, text: &mut [u8]) -> usize
     requires { 65536 ≤ length text.old }
     ensures { result ≤ length text.new }
 {
-    let a = put_line_number(number, text);
-    lines::put_bytes(
-        b"expected at most 65535 bytes before the line's end\n",
-        text,
-        a,
-    )
-}
-
-fn put_too_many(text: &mut [u8], at: usize) -> usize
-    requires { at + 128 ≤ length text.old }
-    ensures { result ≤ at + 128 }
-{
-    lines::put_bytes(
-        b"too many: give at most 128 phys in one order, or 63 rows in one batch or report\n",
-        text,
-        at,
-    )
-}
-
-fn put_too_high(text: &mut [u8], at: usize) -> usize
-    requires { at + 128 ≤ length text.old }
-    ensures { result ≤ at + 128 }
-{
-    lines::put_bytes(
-        b"too high: groups and phys end at 127, priorities at 15\n",
-        text,
-        at,
-    )
-}
-
-fn put_would_fail(text: &mut [u8], at: usize) -> usize
-    requires { at + 128 ≤ length text.old }
-    ensures { result ≤ at + 128 }
-{
-    lines::put_bytes(
-        b"a shelf would fail it: leave groups 0 and 1 out, and let a phy participate only in group 1\n",
-        text,
-        at,
-    )
-}
-
-fn put_no_response(text: &mut [u8], at: usize) -> usize
-    requires { at + 128 ≤ length text.old }
-    ensures { result ≤ at + 128 }
-{
-    lines::put_bytes(
-        b"no shelf answers so: copy the response whole, from its 41 to its last byte\n",
-        text,
-        at,
-    )
+    put_wrong(b"at most 65535 bytes before the line's end", number, text)
 }
 
 // Too little room cannot be: the buffers that are lent here are as large as the console asks.
-fn put_reason(refusal: Refusal, text: &mut [u8], at: usize) -> usize
-    requires { at + 128 ≤ length text.old }
-    ensures { result ≤ at + 128 }
+fn reason(refusal: Refusal) -> &'static [u8]
+    ensures { length result.now ≤ 128 }
 {
     match refusal {
-        Refusal::TooMany => put_too_many(text, at),
-        Refusal::TooHigh => put_too_high(text, at),
-        Refusal::WouldFail => put_would_fail(text, at),
-        Refusal::NoRoom | Refusal::NoResponse => put_no_response(text, at),
+        Refusal::TooMany =>
+            b"too many: give at most 128 phys in one order, or 63 rows in one batch or report\n",
+        Refusal::TooHigh => b"too high: groups and phys end at 127, priorities at 15\n",
+        Refusal::WouldFail =>
+            b"a shelf would fail it: leave groups 0 and 1 out, and let a phy participate only in group 1\n",
+        Refusal::NoRoom | Refusal::NoResponse =>
+            b"no shelf answers so: copy the response whole, from its 41 to its last byte\n",
     }
 }
 
@@ -106,7 +59,7 @@ fn put_refusal(refusal: Refusal, number: u64, text: &mut [u8]) -> usize
     let a = put_line_number(number, text);
     let b = lines::put_decimal(u8::from(refusal) as u64, text, a);
     let c = lines::put_bytes(b", ", text, b);
-    put_reason(refusal, text, c)
+    lines::put_bytes(reason(refusal), text, c)
 }
 
 // The space behind the last item of a list becomes the line's end.
@@ -129,15 +82,13 @@ fn put_item(byte: u8, text: &mut [u8], at: usize) -> usize
     lines::put_byte(b' ', text, a)
 }
 
-fn put_request(request: &[u8], n: usize, text: &mut [u8]) -> usize
-    requires { (n ≤ length request.now) × (3 * n ≤ length text.old) }
+fn put_request(request: &[u8], text: &mut [u8]) -> usize
+    requires { 3 * length request.now ≤ length text.old }
     ensures { result ≤ length text.new }
 {
     let mut at: usize = 0;
-    let mut i: usize = 0;
-    while i < n {
-        at = put_item(request[i], text, at);
-        i += 1;
+    for byte in request {
+        at = put_item(*byte, text, at);
     }
     end_list(text, at)
 }
@@ -148,7 +99,7 @@ pub fn put_built(built: Result<u16, Refusal>, request: &[u8], number: u64, text:
 {
     match built {
         Err(refusal) => put_refusal(refusal, number, text),
-        Ok(n) => put_request(request, n as usize, text),
+        Ok(n) => put_request(&request[..n as usize], text),
     }
 }
 
@@ -163,31 +114,17 @@ fn put_function(function: u8, res: u8, text: &mut [u8], at: usize) -> usize
 }
 
 // To 93h a caller without the right gets 02h, to the others 01h.
-fn put_failed(function: u8, text: &mut [u8], at: usize) -> usize
-    requires { at + 64 ≤ length text.old }
-    ensures { result ≤ at + 64 }
+fn meaning(function: u8, res: u8) -> &'static [u8]
+    ensures { length result.now ≤ 64 }
 {
-    if function == 0x93 {
-        return lines::put_bytes(
-            b"no right, or a group that the shelf does not take\n",
-            text,
-            at,
-        );
-    }
-    lines::put_bytes(b"failed: a group that the shelf does not take\n", text, at)
-}
-
-fn put_meaning(function: u8, res: u8, text: &mut [u8], at: usize) -> usize
-    requires { at + 64 ≤ length text.old }
-    ensures { result ≤ at + 64 }
-{
-    match res {
-        0x00 => lines::put_bytes(b"done\n", text, at),
-        0x01 => lines::put_bytes(b"no right to change zoning\n", text, at),
-        0x02 => put_failed(function, text, at),
-        0x03 => lines::put_bytes(b"invalid request length\n", text, at),
-        0x10 => lines::put_bytes(b"no such phy\n", text, at),
-        _ => lines::put_bytes(b"no such group\n", text, at),
+    match (function, res) {
+        (_, 0x00) => b"done\n",
+        (_, 0x01) => b"no right to change zoning\n",
+        (0x93, 0x02) => b"no right, or a group that the shelf does not take\n",
+        (_, 0x02) => b"failed: a group that the shelf does not take\n",
+        (_, 0x03) => b"invalid request length\n",
+        (_, 0x10) => b"no such phy\n",
+        _ => b"no such group\n",
     }
 }
 
@@ -215,10 +152,8 @@ fn put_groups(rows: &[u8], row: usize, text: &mut [u8], from: usize) -> usize
     ensures { (from ≤ result) × (result ≤ from + 768) }
 {
     let mut at = from;
-    let mut j: usize = 0;
-    while j < 128 {
-        at = put_group(rows, 128 * row + j, j, text, at);
-        j += 1;
+    for group in 0..128 {
+        at = put_group(rows, 128 * row + group, group, text, at);
     }
     at
 }
@@ -264,11 +199,8 @@ fn put_rows(start: u8, count: u8, rows: &[u8], text: &mut [u8]) -> usize
     ensures { result ≤ length text.new }
 {
     let mut at = put_row_count(start, count, text);
-    let n = wire::index(count);
-    let mut i: usize = 0;
-    while i < n {
-        at = put_row(start, rows, i, text, at);
-        i += 1;
+    for row in 0..wire::index(count) {
+        at = put_row(start, rows, row, text, at);
     }
     at
 }
@@ -299,5 +231,5 @@ fn put_result(function: u8, res: u8, text: &mut [u8]) -> usize
     ensures { result ≤ length text.new }
 {
     let a = put_function(function, res, text, 0);
-    put_meaning(function, res, text, a)
+    lines::put_bytes(meaning(function, res), text, a)
 }

@@ -1,25 +1,15 @@
 -- Numbers: digits one by one, held at 255.
 -- Assumes nothing.
 use mathlib.Core.Path.{◌≡◌, sym, ◌∙◌}
-use mathlib.Core.Bool.{Bool, true, false, not}
 use mathlib.Core.List.{List, [], ◌∷◌}
 use Prim.Native.Nat.{ℕ, suc, ◌+◌, ◌-◌, ◌*◌, ◌≤◌, ◌<◌}
 use native.Mathlib.Numerals.{add-one}
 use native.Mathlib.Decide.{dec_lt}
 use native.Mathlib.Omega.{arith}
-use borrow.Author.Tests.{lt-ltb, le-ltb, eq-eqb, ne_eqb, not-true, not-false}
-use lib.Dec.{eqb}
-use lib.ListN.{length, get_or, drop, take, drop_of_length-le}
+use borrow.Author.Tests.{lt-ltb, le-ltb}
+use lib.ListN.{length, get_or, drop, drop_of_length-le}
 use lib.Seq.{drop-cons}
-use Rattle.warden_words.specs.Words.{between, run_end, word_end, word_at, next_word}
-use Rattle.warden_words.proofs.WordLaws.{between_at_least, between_at_most}
-use Rattle.warden_words.specs.Numbers.{numeric, decimal_from, at_most, held, hex_value, NumberAt}
-
-pub least_first : (a b : ℕ) → a < b → (a ≡ at_most b a) × (a ≤ a) × (a ≤ b)
-least_first a b h = (rw (lt-ltb a b h), omega arith, omega arith)
-
-pub least_second : (a b : ℕ) → b ≤ a → (b ≡ at_most b a) × (b ≤ a) × (b ≤ b)
-least_second a b h = (rw (le-ltb a b h), h, omega arith)
+use Rattle.warden_words.specs.Numbers.{decimal_from, at_most, held}
 
 large : (n : ℕ) (ds : List ℕ) → 255 ≤ n → 255 ≤ decimal_from n ds
 unfolding decimal_from
@@ -51,51 +41,3 @@ held_end w i v h b p = sym (p ∙ rw (drop_of_length-le w h) (go (dec_lt v 255))
     go : Dec (v < 255) → at_most 255 v ≡ v
     go (yes l) = rw (lt-ltb v 255 l)
     go (no l) = rw (le-ltb v 255 (omega arith)) (omega arith)
-
--- ---- whether it is a number
-pub numeric_none : (w : List ℕ) → length w ≡ 0 → false ≡ numeric w
-unfolding numeric
-numeric_none w e = rw (eq-eqb (length w) 0 e)
-
-pub numeric-some : (w : List ℕ) (r : ℕ) → (length w ≡ 0 → ⊥) → r ≡ run_end 1 w 0 → eqb r (length w) ≡ numeric w
-unfolding numeric
-numeric-some w r n e = rw (ne_eqb (length w) 0 n, e)
-
--- ---- hex digits
-pub hex-digit : (b : ℕ) (r : Bool) → r ≡ between 48 57 b → r ≡ true → (b - 48 ≡ hex_value b) × (b - 48 ≤ 16)
-unfolding hex_value
-hex-digit b r e t = let h = between_at_most r b 48 57 e t in (rw (sym e ∙ t), omega arith)
-
-pub hex_lower : (b : ℕ) (r q : Bool) → r ≡ between 48 57 b → r ≡ false → q ≡ between 97 102 b → q ≡ true → (b - 87 ≡ hex_value b) × (b - 87 ≤ 16)
-unfolding hex_value
-hex_lower b r q e f d t = let h = between_at_most q b 97 102 d t in (rw (sym e ∙ f, sym d ∙ t), omega arith)
-
-pub hex_upper : (b : ℕ) (r q s : Bool) → r ≡ between 48 57 b → r ≡ false → q ≡ between 97 102 b → q ≡ false → s ≡ between 65 70 b → s ≡ true
-    → (b - 55 ≡ hex_value b) × (b - 55 ≤ 16)
-unfolding hex_value
-hex_upper b r q s e f d g u t = let h = between_at_most s b 65 70 u t in (rw (sym e ∙ f, sym d ∙ g, sym u ∙ t), omega arith)
-
-pub hex_none : (b : ℕ) (r q s : Bool) → r ≡ between 48 57 b → r ≡ false → q ≡ between 97 102 b → q ≡ false → s ≡ between 65 70 b → s ≡ false
-    → (16 ≡ hex_value b) × (16 ≤ 16)
-unfolding hex_value
-hex_none b r q s e f d g u t = (rw (sym e ∙ f, sym d ∙ g, sym u ∙ t), omega arith)
-
-pub lower_least : (b : ℕ) (q : Bool) → q ≡ between 97 102 b → q ≡ true → 87 ≤ b
-lower_least b q e t = let h = between_at_least q b 97 102 e t in omega arith
-
-pub upper_least : (b : ℕ) (q : Bool) → q ≡ between 65 70 b → q ≡ true → 55 ≤ b
-upper_least b q e t = let h = between_at_least q b 65 70 e t in omega arith
-
--- ---- the number at a word
-pub number_none : (line : List ℕ) (at end : ℕ) (r : Bool) → end ≡ word_end line at → r ≡ numeric (take (end - at) (drop at line)) → not r ≡ true
-    → NumberAt line at 0 at
-number_none line at end r e n t =
-    let q : numeric (word_at line at) ≡ false = rw e at (sym n ∙ not-true r t) in
-    record { read = rw q; goes = rw q }
-
-pub number_read : (line : List ℕ) (at end v next : ℕ) (r : Bool) → end ≡ word_end line at → r ≡ numeric (take (end - at) (drop at line)) → not r ≡ false
-    → v ≡ held (take (end - at) (drop at line)) → next ≡ run_end 0 line end → NumberAt line at v next
-unfolding next_word
-number_read line at end v next r e n t h g =
-    let q : numeric (word_at line at) ≡ true = rw e at (sym n ∙ not-false r t) in
-    record { read = rw q (rw e at h); goes = rw q (rw e at g) }

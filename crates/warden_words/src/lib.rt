@@ -1,97 +1,69 @@
 // A line's words and numbers. A position in a line is where a word starts, or the line's end: whatever takes a word answers where the next one
-// starts, and where it was asked if the word there is not the one that it takes.
+// starts, if the word there is the one that it takes.
 #![tactic(auto)]
 
-ghost use Rattle.std.specs.Prelude.{◌≡◌, cond, ◌+◌, ◌*◌, ◌-◌, ◌≤◌, length};
-ghost use Rattle.warden_words.specs.Words.{between, blank, letter_or_digit, of_kind, run_end, word_end, word_at, next_word};
+ghost use Rattle.std.specs.Prelude.{◌≡◌, cond, ◌+◌, ◌*◌, ◌-◌, ◌<◌, ◌≤◌, length, IfSome, Some, None};
+ghost use Rattle.warden_words.specs.Words.{of_kind, run, run_end, word_end, word_at, next_word};
 ghost use Rattle.warden_words.specs.Words as words;
-ghost use Rattle.warden_words.specs.Numbers.{numeric, at_most, held, hex_value, NumberAt};
+ghost use Rattle.warden_words.specs.Numbers.{numeric, at_most, held, hex_value, hex_at, number_at};
+ghost use Rattle.warden_words.specs.declared.Kind.TheVariants.{Blank, InLine};
 
 // What a run of bytes is made of.
-const BLANK: u8 = 0;
-
-const DIGIT: u8 = 1;
-
-const LETTER_OR_DIGIT: u8 = 2;
-
-const IN_LINE: u8 = 3;
+#[derive(Clone, Copy, Debug, PartialEq, Eq)]
+enum Kind {
+    Blank,
+    Digit,
+    LetterOrDigit,
+    // All but a line end.
+    InLine,
+}
 
 // A number that was read, and where the next word starts.
-#[derive(Clone, Copy)]
+#[derive(Clone, Copy, Debug, PartialEq, Eq)]
 pub struct Read {
     pub value: u8,
     pub next: usize,
 }
 
-fn is_between(b: u8, low: u8, high: u8) -> bool
-    ensures { result ≡ between low high b }
-{
-    if b < low {
-        return false;
-    }
-    b <= high
-}
-
-fn is_blank(b: u8) -> bool
-    ensures { result ≡ blank b }
-{
-    if b == b' ' {
-        return true;
-    }
-    b == b'\t'
-}
-
-fn is_letter_or_digit(b: u8) -> bool
-    ensures { result ≡ letter_or_digit b }
-{
-    if is_between(b, b'0', b'9') {
-        return true;
-    }
-    if is_between(b, b'a', b'z') {
-        return true;
-    }
-    is_between(b, b'A', b'Z')
-}
-
-fn is_of(b: u8, kind: u8) -> bool
+fn is_of(b: u8, kind: Kind) -> bool
     ensures { result ≡ of_kind kind b }
 {
     match kind {
-        BLANK => is_blank(b),
-        DIGIT => is_between(b, b'0', b'9'),
-        LETTER_OR_DIGIT => is_letter_or_digit(b),
-        _ => b != b'\n',
+        Kind::Blank => matches!(b, b' ' | b'\t'),
+        Kind::Digit => b.is_ascii_digit(),
+        Kind::LetterOrDigit => b.is_ascii_alphanumeric(),
+        Kind::InLine => b != b'\n',
     }
 }
 
+// How many bytes at the front are such.
+fn run(bytes: &[u8], kind: Kind) -> usize
+    ensures { (result ≡ run kind bytes.now) × (result ≤ length bytes.now) }
+{
+    bytes.iter().take_while(|b| is_of(**b, kind)).count()
+}
+
 // Where the run of such bytes ends that starts at `at`.
-fn run_end(bytes: &[u8], at: usize, kind: u8) -> usize
+fn run_end(bytes: &[u8], at: usize, kind: Kind) -> usize
     requires { at ≤ length bytes.now }
     ensures { (result ≡ run_end kind bytes.now at) × (at ≤ result) × (result ≤ length bytes.now) }
 {
-    let mut i = at;
-    while i < bytes.len() {
-        if !is_of(bytes[i], kind) {
-            return i;
-        }
-        i += 1;
-    }
-    i
+    at + run(&bytes[at..], kind)
 }
 
 // Where the line that starts at `at` ends: at its line end, or where the bytes end.
 pub fn line_end(bytes: &[u8], at: usize) -> usize
     requires { at ≤ length bytes.now }
-    ensures { (result ≡ run_end 3 bytes.now at) × (at ≤ result) × (result ≤ length bytes.now) }
+    ensures { (result ≡ run_end InLine bytes.now at) × (at ≤ result) × (result ≤ length bytes.now) }
 {
-    run_end(bytes, at, IN_LINE)
+    run_end(bytes, at, Kind::InLine)
 }
 
 pub fn past_blanks(line: &[u8], at: usize) -> usize
     requires { at ≤ length line.now }
-    ensures { (result ≡ run_end 0 line.now at) × (at ≤ result) × (result ≤ length line.now) }
+    ensures { (result ≡ run_end Blank line.now at) × (at ≤ result) × (result ≤ length line.now) }
 {
-    run_end(line, at, BLANK)
+    run_end(line, at, Kind::Blank)
 }
 
 // Where the word ends that starts at `at`: a mark is a word by itself.
@@ -99,7 +71,7 @@ fn word_end(line: &[u8], at: usize) -> usize
     requires { at ≤ length line.now }
     ensures { (result ≡ word_end line.now at) × (at ≤ result) × (result ≤ length line.now) }
 {
-    let end = run_end(line, at, LETTER_OR_DIGIT);
+    let end = run_end(line, at, Kind::LetterOrDigit);
     if at < end {
         return end;
     }
@@ -112,126 +84,83 @@ fn word_end(line: &[u8], at: usize) -> usize
 pub fn same(a: &[u8], b: &[u8]) -> bool
     ensures { result ≡ words.same a.now b.now }
 {
-    if a.len() != b.len() {
-        return false;
-    }
-    let mut i: usize = 0;
-    while i < a.len() {
-        if a[i] != b[i] {
-            return false;
-        }
-        i += 1;
-    }
-    true
+    a == b
 }
 
-pub fn past_word(line: &[u8], at: usize, word: &[u8]) -> usize
+pub fn past_word(line: &[u8], at: usize, word: &[u8]) -> Option<usize>
     requires { at ≤ length line.now }
-    ensures { (result ≡ cond (words.same (word_at line.now at) word.now) (next_word line.now at) at) × (at ≤ result) × (result ≤ length line.now) }
+    ensures { (result ≡ cond (words.same (word_at line.now at) word.now) (Some (next_word line.now at)) None) × IfSome result (λ next. (at + length word.now ≤ next) × (next ≤ length line.now)) }
 {
     let end = word_end(line, at);
     if same(&line[at..end], word) {
-        return past_blanks(line, end);
+        Some(past_blanks(line, end))
+    } else {
+        None
     }
-    at
 }
 
 fn is_number(word: &[u8]) -> bool
     ensures { result ≡ numeric word.now }
 {
-    if word.len() == 0 {
-        return false;
-    }
-    run_end(word, 0, DIGIT) == word.len()
-}
-
-pub fn least(a: usize, b: usize) -> usize
-    ensures { (result ≡ at_most b a) × (result ≤ a) × (result ≤ b) }
-{
-    if a < b {
-        return a;
-    }
-    b
-}
-
-fn digit_value(b: u8) -> u8
-    ensures { result ≡ b - 48 }
-{
-    if b < 48 {
-        return 0;
-    }
-    b - 48
+    !word.is_empty() && run(word, Kind::Digit) == word.len()
 }
 
 // One digit more. Beyond 255 it stays at 255, which no count, group or priority reaches: a number never wraps to one that is meant.
 fn with_digit(value: u8, digit: u8) -> u8
     ensures { result ≡ at_most 255 (10 * value + (digit - 48)) }
 {
-    let n = 10 * wire::index(value) + wire::index(digit_value(digit));
-    least(n, 255) as u8
+    value
+        .saturating_mul(10)
+        .saturating_add(digit.saturating_sub(b'0'))
 }
 
 fn decimal_value(word: &[u8]) -> u8
     ensures { result ≡ held word.now }
 {
     let mut value: u8 = 0;
-    let mut i: usize = 0;
-    while i < word.len() {
-        value = with_digit(value, word[i]);
-        i += 1;
+    for digit in word {
+        value = with_digit(value, *digit);
     }
     value
 }
 
-pub fn number_at(line: &[u8], at: usize) -> Read
+pub fn number_at(line: &[u8], at: usize) -> Option<Read>
     requires { at ≤ length line.now }
-    ensures { NumberAt line.now at result.value result.next × (at ≤ result.next) × (result.next ≤ length line.now) }
+    ensures { (result ≡ number_at line.now at) × IfSome result (λ read. (at < read.next) × (read.next ≤ length line.now)) }
 {
     let end = word_end(line, at);
     if !is_number(&line[at..end]) {
-        return Read { value: 0, next: at };
+        return None;
     }
-    Read {
+    Some(Read {
         value: decimal_value(&line[at..end]),
         next: past_blanks(line, end),
-    }
+    })
 }
 
-// 16 where it is no hex digit.
-fn hex_value(b: u8) -> u8
-    ensures { (result ≡ hex_value b) × (result ≤ 16) }
+fn hex_value(b: u8) -> Option<u8>
+    ensures { (result ≡ hex_value b) × IfSome result (λ value. value < 16) }
 {
-    if is_between(b, b'0', b'9') {
-        return b - 48;
+    match b {
+        b'0'..=b'9' => Some(b - 48),
+        b'a'..=b'f' => Some(b - 87),
+        b'A'..=b'F' => Some(b - 55),
+        _ => None,
     }
-    if is_between(b, b'a', b'f') {
-        return b - 87;
-    }
-    if is_between(b, b'A', b'F') {
-        return b - 55;
-    }
-    16
 }
 
-pub fn hex_at(line: &[u8], at: usize) -> Read
+pub fn hex_at(line: &[u8], at: usize) -> Option<Read>
     requires { at ≤ length line.now }
-    ensures { (at ≤ result.next) × (result.next ≤ length line.now) }
+    ensures { (result ≡ hex_at line.now at) × IfSome result (λ read. (at < read.next) × (read.next ≤ length line.now)) }
 {
-    let none = Read { value: 0, next: at };
     let end = word_end(line, at);
     if end - at != 2 {
-        return none;
+        return None;
     }
-    let high = hex_value(line[at]);
-    if 15 < high {
-        return none;
-    }
-    let low = hex_value(line[at + 1]);
-    if 15 < low {
-        return none;
-    }
-    Read {
+    let high = hex_value(line[at])?;
+    let low = hex_value(line[at + 1])?;
+    Some(Read {
         value: 16 * high + low,
         next: past_blanks(line, end),
-    }
+    })
 }

@@ -3,7 +3,7 @@
 use mathlib.Core.Path.{◌≡◌, refl, sym}
 use mathlib.Core.Bool.{Bool, true, false, not, cond, ◌&&◌}
 use mathlib.Core.List.{List, [], ◌∷◌, ◌++◌}
-use Prim.Native.Nat.{ℕ, zero, suc, ◌+◌, ◌*◌, ◌%◌, ◌≤◌, ◌<◌}
+use Prim.Native.Nat.{ℕ, zero, suc, ◌+◌, ◌*◌, ◌≤◌, ◌<◌}
 use native.Mathlib.Decide.{ℕ_discrete, dec_lt}
 use native.Mathlib.Omega.{arith}
 use borrow.Author.Tests.{eq-eqb, ne_eqb, lt-ltb, le-ltb, ltb-false}
@@ -14,7 +14,6 @@ use Rattle.permit.specs.Orders.{order, apply, batch_orders, rows_end}
 use Rattle.permit.specs.History.{Zone, Valid}
 use Rattle.permit.proofs.HistoryLaws.{valid_batch}
 use Rattle.tables.specs.Refusals.{first_refusal}
-use Rattle.tables.specs.Phys.{ready_set, empty_set}
 use Rattle.tables.proofs.RefusalLaws.{clear, agrees_not}
 use Rattle.requests.specs.Requests.{right, Leaves}
 use Rattle.requests.proofs.RequestLaws.{leaves_done}
@@ -129,14 +128,6 @@ module _ (w : ℕ) (request t u : List ℕ) where
       → u ≡ apply w (orders_of w request) t
   unfolding orders_of
   obeys_batch n h = rw (ne_eqb (operation request) 8 n) h
-
--- ---- the set
-module _ (phys request s t : List ℕ) where
-  pub sets_ready : get_or request 9 0 % 2 ≡ 1 → t ≡ ready_set phys ++ s → t ≡ permission_set phys request ++ s
-  sets_ready e h = rw (eq-eqb (get_or request 9 0 % 2) 1 e) h
-
-  pub sets_empty : (get_or request 9 0 % 2 ≡ 1 → ⊥) → t ≡ empty_set ++ s → t ≡ permission_set phys request ++ s
-  sets_empty n h = rw (ne_eqb (get_or request 9 0 % 2) 1 n) h
 
 -- ---- the accepted end of the rule
 pub leaves_orders : (w : ℕ) (phys permissions : List ℕ) (phy carried : ℕ) (request response set permissions₁ response₁ set₁ : List ℕ)

@@ -7,6 +7,7 @@ ghost use Rattle.std.specs.Prelude.{◌≤◌, length};
 use std::env::{Env, FillError};
 use std::io;
 use std::io::Write;
+use zonefile_text::Text;
 
 // The word that the program was started with; none where it was not one, or is longer than any that is known.
 fn take_word(env: &impl Env, word: &mut [u8]) -> usize
@@ -38,10 +39,8 @@ fn main(rt: HostRuntime) -> io::Result<()> {
             return Ok(());
         }
     }
-    let said = zonefile_text::zone_text(&word[0..n], &input[0..have], &mut text);
-    let end = said.end;
-    if said.refused {
-        return rt.stderr().write_all(&text[0..end]);
+    match zonefile_text::zone_text(&word[0..n], &input[0..have], &mut text) {
+        Text::Output(end) => rt.stdout().write_all(&text[0..end]),
+        Text::Errors(end) => rt.stderr().write_all(&text[0..end]),
     }
-    rt.stdout().write_all(&text[0..end])
 }

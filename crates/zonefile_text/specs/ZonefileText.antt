@@ -14,6 +14,7 @@ use Rattle.version_1.specs.Version1.{file_of, load_checks}
 use Rattle.orders_text.specs.OrdersText.{stop_text, too_long_text, given}
 use Rattle.warden_words.specs.Words.{same}
 use Rattle.zonefile_text.specs.declared.Text.{Text}
+use Rattle.zonefile_text.specs.declared.Text.TheVariants.{Output, Errors}
 
 -- ---- the words
 
@@ -113,8 +114,17 @@ abbrev pub bytes_of : Said → List ℕ
 bytes_of (output bytes) = bytes
 bytes_of (errors words) = words
 
+-- for which of the two a text is, and where it ends
+abbrev pub refused : Text → Bool
+refused (Output end) = false
+refused (Errors end) = true
+
+abbrev pub end_of : Text → ℕ
+end_of (Output end) = end
+end_of (Errors end) = end
+
 -- a text after s was put at its front, where that ends, and for which of the two it is
 pub record SaidBy (s : Said) (text : List ℕ) (r : Text) (text₁ : List ℕ) : Type 0 where
-  pub which : r.refused ≡ is_refused s
-  pub wrote : Wrote text 0 (bytes_of s) r.end text₁
-  pub within : r.end ≤ 88011
+  pub which : refused r ≡ is_refused s
+  pub wrote : Wrote text 0 (bytes_of s) (end_of r) text₁
+  pub within : end_of r ≤ 88011

@@ -5,6 +5,7 @@
 ghost use Rattle.std.specs.Prelude.{◌≡◌, true, ◌||◌, ◌≤◌, length};
 ghost use Rattle.permit.specs.Permission.{start_table};
 ghost use Rattle.tables.specs.Refusals.{first_refusal};
+ghost use Rattle.tables.specs.Numbers.{number};
 ghost use Rattle.lines.specs.Written.{Wrote};
 ghost use Rattle.file_pairs.specs.Described.{described};
 ghost use Rattle.version_1.specs.Version1.{file_of, load_checks};
@@ -12,16 +13,17 @@ ghost use Rattle.orders_text.specs.OrdersText.{given};
 ghost use Rattle.warden_words.specs.Words as words;
 ghost use Rattle.zonefile_text.specs.ZonefileText.{save_word, load_word, usage_text, long_file_text, short_file_text, version2_text, version_text, lengths_text, offset_text, pair_text, refusal_text, file_said, save_said, sheet_said, load_said, zone_said, SaidBy};
 
-use file_trailer::{FILE_ROOM, Loaded, Saved};
+use file_trailer::FILE_ROOM;
 use imports::Imported;
 use sheet_lines::SHEET_MOST;
+use tables::refusal::Refusal;
 
-// Where a text ends, and whether it is the words of a refusal. Those are for standard error, as standard output may be a file, and an empty one tells
-// that there is none.
-#[derive(Clone, Copy)]
-pub struct Text {
-    pub end: usize,
-    pub refused: bool,
+// Where a text ends, and for which output it is. The words of a refusal are for standard error, as standard output may be a file, and an empty one
+// tells that there is none.
+#[derive(Clone, Copy, Debug, PartialEq, Eq)]
+pub enum Text {
+    Output(usize),
+    Errors(usize),
 }
 
 // Whether a word is one that the program knows, so that no input is waited for where it is not.
@@ -119,27 +121,18 @@ fn put_bad_pair(text: &mut [u8]) -> usize
 }
 
 // Why a file is refused.
-#[tactic(auto, unfolding(crate::specs::ZonefileText::refusal_text))]
-fn put_refusal(no: u8, text: &mut [u8]) -> usize
+fn put_refusal(refusal: Refusal, text: &mut [u8]) -> usize
     requires { 128 ≤ length text.old }
-    ensures { Wrote text.old 0 (refusal_text no) result text.new × (result ≤ 128) }
+    ensures { Wrote text.old 0 (refusal_text (number refusal)) result text.new × (result ≤ 128) }
 {
-    if no == file_trailer::TOO_SHORT {
-        return put_short_file(text);
+    match refusal {
+        Refusal::TooShort => put_short_file(text),
+        Refusal::IsVersion2 => put_version_2(text),
+        Refusal::VersionUnknown => put_version(text),
+        Refusal::LengthsDisagree => put_lengths(text),
+        Refusal::OffsetDisagrees => put_offset(text),
+        _ => put_bad_pair(text),
     }
-    if no == file_trailer::IS_VERSION_2 {
-        return put_version_2(text);
-    }
-    if no == file_trailer::VERSION_UNKNOWN {
-        return put_version(text);
-    }
-    if no == file_trailer::LENGTHS_DISAGREE {
-        return put_lengths(text);
-    }
-    if no == file_trailer::OFFSET_DISAGREES {
-        return put_offset(text);
-    }
-    put_bad_pair(text)
 }
 
 // The table's file. There is room, and a table that orders made is as a save asks, so it is not refused.
@@ -148,8 +141,8 @@ fn put_file(permissions: &[u8], text: &mut [u8]) -> usize
     ensures { Wrote text.old 0 (file_of 16 permissions.now) result text.new × (result ≤ 88011) }
 {
     match version_1::save_version_1(permissions, text) {
-        Saved::Written(end) => end as usize,
-        Saved::Refused(_) => 0,
+        Ok(end) => end as usize,
+        Err(_) => 0,
     }
 }
 
@@ -159,21 +152,11 @@ fn put_saved(sheet: &[u8], permissions: &mut [u8], text: &mut [u8]) -> Text
     ensures { SaidBy (file_said (given sheet.now)) text.old result text.new }
 {
     match orders_text::give_orders(sheet, permissions) {
-        Imported::Whole(_) => {
-            let end = put_file(permissions, text);
-            Text {
-                end,
-                refused: false,
-            }
+        Ok(Imported::Whole(_)) => Text::Output(put_file(permissions, text)),
+        Ok(Imported::Stopped(number, cause)) => {
+            Text::Errors(orders_text::put_stop(number, cause, text))
         }
-        Imported::Stopped(number, cause) => {
-            let end = orders_text::put_stop(number, cause, text);
-            Text { end, refused: true }
-        }
-        Imported::Refused(_) => Text {
-            end: 0,
-            refused: true,
-        },
+        Err(_) => Text::Errors(0),
     }
 }
 
@@ -182,8 +165,7 @@ fn save_text(sheet: &[u8], text: &mut [u8]) -> Text
     ensures { SaidBy (save_said sheet.now) text.old result text.new }
 {
     if SHEET_MOST < sheet.len() {
-        let end = orders_text::put_too_long(text);
-        return Text { end, refused: true };
+        return Text::Errors(orders_text::put_too_long(text));
     }
     let mut permissions = [0u8; 2048];
     put_saved(sheet, &mut permissions, text)
@@ -195,17 +177,8 @@ fn put_loaded(file: &[u8], permissions: &mut [u8], text: &mut [u8]) -> Text
 {
     permit::start_table(16, permissions);
     match version_1::load_version_1(permissions, file) {
-        Loaded::Version(_) => {
-            let end = orders_text::put_pairs(permissions, text);
-            Text {
-                end,
-                refused: false,
-            }
-        }
-        Loaded::Refused(no) => {
-            let end = put_refusal(no, text);
-            Text { end, refused: true }
-        }
+        Ok(_) => Text::Output(orders_text::put_pairs(permissions, text)),
+        Err(refusal) => Text::Errors(put_refusal(refusal, text)),
     }
 }
 
@@ -214,8 +187,7 @@ fn load_text(file: &[u8], text: &mut [u8]) -> Text
     ensures { SaidBy (load_said file.now) text.old result text.new }
 {
     if FILE_ROOM < file.len() {
-        let end = put_long_file(text);
-        return Text { end, refused: true };
+        return Text::Errors(put_long_file(text));
     }
     let mut permissions = [0u8; 2048];
     put_loaded(file, &mut permissions, text)
@@ -232,6 +204,5 @@ pub fn zone_text(word: &[u8], input: &[u8], text: &mut [u8]) -> Text
     if warden_words::same(word, b"load") {
         return load_text(input, text);
     }
-    let end = put_usage(text);
-    Text { end, refused: true }
+    Text::Errors(put_usage(text))
 }

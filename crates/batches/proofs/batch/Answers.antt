@@ -9,7 +9,7 @@ use lib.ListN.{length, take, drop, length-take, length-drop}
 use lib.Seq.{take_all}
 use Rattle.permit.specs.Permission.{groups, P}
 use Rattle.permit.specs.Orders.{apply, row_orders}
-use Rattle.permit.proofs.HistoryLaws.{BatchLeft, batch-start, batch_again, batch_done}
+use Rattle.permit.proofs.HistoryLaws.{BatchLeft, batch_again, batch_done}
 use Rattle.permit.proofs.ReachLaws.{rows_end_lem}
 use Rattle.batches.proofs.batch.Goals as goal
 
@@ -19,9 +19,6 @@ again : (w : ℕ) (request t₀ t t' : List ℕ) (start k i : ℕ) → i < k
 again w request t₀ t t' start k i h e l =
     batch_again w (drop 12 request) start k t₀ t t' i h
     (rw (take_all (length request - 12) (drop 12 request) (omega (arith, length-drop 12 request))) at e) l
-
-pub loop-i-init : goal.loop-i-init
-loop-i-init c = search batch-start
 
 pub batch_row-requires : goal.batch_row-requires
 batch_row-requires c = (search rules, simp (length-take, length-drop) (omega arith), search rows_end_lem)

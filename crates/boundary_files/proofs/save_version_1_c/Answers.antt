@@ -1,6 +1,5 @@
 -- `boundary_files::save_version_1_c` meets its contract.
 use Rattle.boundary.proofs.Crossing.{crosses}
-use borrow.Author.Rules.{rules}
 use Rattle.boundary_files.proofs.save_version_1_c.Goals as goal
 
 pub returns : goal.returns

@@ -1,6 +1,5 @@
 -- `boundary_sheets::export_c` meets its contract.
 use Rattle.boundary.proofs.Crossing.{crosses}
-use borrow.Author.Rules.{rules}
 use Rattle.boundary_sheets.proofs.export_c.Goals as goal
 
 pub returns : goal.returns

@@ -1,6 +1,5 @@
 -- `boundary_sheets::import_c` meets its contract.
 use Rattle.boundary_sheets.proofs.SheetsCLaws.{import_wide, import_fits}
-use borrow.Author.Rules.{rules}
 use Rattle.boundary_sheets.proofs.import_c.Goals as goal
 
 pub returns-then-carried-gt255 : goal.returns-then-carried-gt255

@@ -1,9 +1,6 @@
 -- `election::elect_phys` meets its contract.
-use Rattle.election.proofs.Steps.{carry_start, phys_again, phys_end}
+use Rattle.election.proofs.Steps.{phys_again, phys_end}
 use Rattle.election.proofs.elect_phys.Goals as goal
-
-pub loop-i-init : goal.loop-i-init
-loop-i-init c = search carry_start
 
 pub loop-i-preserved : goal.loop-i-preserved
 loop-i-preserved c = search phys_again

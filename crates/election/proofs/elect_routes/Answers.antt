@@ -1,9 +1,6 @@
 -- `election::elect_routes` meets its contract.
-use Rattle.election.proofs.Steps.{carry_start, routes_again, routes_end}
+use Rattle.election.proofs.Steps.{routes_again, routes_end}
 use Rattle.election.proofs.elect_routes.Goals as goal
-
-pub loop-i-init : goal.loop-i-init
-loop-i-init c = search carry_start
 
 pub loop-i-preserved : goal.loop-i-preserved
 loop-i-preserved c = search routes_again

@@ -1,5 +1,5 @@
 -- `election::with_phy` meets its contract.
-use Rattle.election.proofs.Steps.{lower, zero_priority, not_ready_lem, phy_considered}
+use Rattle.election.proofs.Steps.{lower, zero_priority, not_ready_lem}
 use Rattle.election.proofs.with_phy.Goals as goal
 
 pub returns-then-not-is_ready : goal.returns-then-not-is_ready
@@ -10,6 +10,3 @@ returns-then-priority-b c = search lower
 
 pub returns-then-priority-eq0 : goal.returns-then-priority-eq0
 returns-then-priority-eq0 c = search zero_priority
-
-pub returns : goal.returns
-returns c = search phy_considered

@@ -1,5 +1,5 @@
 -- `election::with_route` meets its contract.
-use Rattle.election.proofs.Steps.{lower, zero_priority, no_group, route_considered}
+use Rattle.election.proofs.Steps.{lower, zero_priority, no_group}
 use Rattle.election.proofs.with_route.Goals as goal
 
 pub returns-then-priority-b : goal.returns-then-priority-b
@@ -10,6 +10,3 @@ returns-then-priority-eq0 c = search zero_priority
 
 pub returns-in_default : goal.returns-in_default
 returns-in_default c = search no_group
-
-pub returns : goal.returns
-returns c = search route_considered

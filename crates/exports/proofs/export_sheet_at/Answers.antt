@@ -5,14 +5,14 @@ use native.Mathlib.Omega.{arith}
 use borrow.Author.Rules.{rules}
 use Rattle.exports.proofs.export_sheet_at.Goals as goal
 
-pub returns-then-no-ne0 : goal.returns-then-no-ne0
-returns-then-no-ne0 c = search refuses
+pub returns-in_err-check_export : goal.returns-in_err-check_export
+returns-in_err-check_export c = refuses _ _ _ _ _ _ _ c.from_residual.ensures.1 c.in_err-check_export.ensures
 
 pub put_sheet-end-requires : goal.put_sheet-end-requires
-put_sheet-end-requires c = export_room _ _ _ _ (search rules) c.export_refusal-no.ensures c.if-no-ne0.false
+put_sheet-end-requires c = export_room _ _ _ (search rules) c.in_ok-check_export.ensures
 
 pub overflow_cast-result : goal.overflow_cast-result
 overflow_cast-result c = let h = export_short _ _ _ _ _ (search rules) c.put_sheet-end.ensures in omega arith
 
 pub returns : goal.returns
-returns c = search export_gives
+returns c = export_gives _ _ _ _ _ (search rules) c.in_ok-check_export.ensures c.put_sheet-end.ensures

@@ -1,5 +1,4 @@
 -- `file_pairs::is_described` meets its contract.
-use Prim.Native.Nat.{◌-◌}
 use Rattle.wire.proofs.RunLaws.{Judged}
 use Rattle.permit.specs.Permission.{groups}
 use Rattle.file_pairs.specs.Described.{fair_row, described}
@@ -7,6 +6,3 @@ use Rattle.file_pairs.proofs.is_described.Given as goal
 
 abbrev pub invariant-loop-a : goal.invariant-loop-a
 invariant-loop-a l = Judged (described l.width l.permissions) (fair_row l.width l.permissions) (groups l.width) l.a
-
-abbrev pub decreases-loop-a : goal.decreases-loop-a
-decreases-loop-a l = groups l.width - l.a

@@ -1,5 +1,4 @@
 -- `file_phys::are_phys_writable` meets its contract.
-use Prim.Native.Nat.{◌-◌}
 use Rattle.wire.proofs.RunLaws.{Judged}
 use Rattle.tables.specs.Phys.{phy_count}
 use Rattle.file_phys.specs.Block.{block_of, entry_writable, all_writable}
@@ -7,6 +6,3 @@ use Rattle.file_phys.proofs.are_phys_writable.Given as goal
 
 abbrev pub invariant-loop-i : goal.invariant-loop-i
 invariant-loop-i l = Judged (all_writable l.width (block_of l.phys)) (entry_writable l.width (block_of l.phys)) (phy_count l.phys) l.i
-
-abbrev pub decreases-loop-i : goal.decreases-loop-i
-decreases-loop-i l = phy_count l.phys - l.i

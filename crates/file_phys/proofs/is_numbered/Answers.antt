@@ -1,23 +1,30 @@
 -- `file_phys::is_numbered` meets its contract.
-use Prim.Native.Nat.{◌*◌}
-use native.Mathlib.Omega.{arith}
-use Rattle.file_phys.proofs.BlockLaws.{counted_start, counted_below, counted_above, counted_again, counted_end}
+use Rattle.std.proofs.Common.{◌∙◌, arith}
+use Rattle.file_phys.proofs.BlockLaws.{counted_below, counted_above, counted_again, counted_end}
 use Rattle.file_phys.proofs.is_numbered.Goals as goal
 
-pub loop-i-init : goal.loop-i-init
-loop-i-init c = search counted_start
-
-pub overflow_cast-phy : goal.overflow_cast-phy
-overflow_cast-phy c = omega (arith, c.type_inv.block (3 * c.loop-i.i))
-
 pub returns-then-phy-low : goal.returns-then-phy-low
-returns-then-phy-low c = search counted_below
+returns-then-phy-low c =
+    let i = c.loop-entry.invariant in
+    let s = c.in-Some.ensures.steps in
+    counted_below _ _ _ _ i.3 _ _ s.1.0 (s.1.1 ∙ i.2) c.if-phy-low.true
 
 pub returns-then-count-phy : goal.returns-then-count-phy
-returns-then-count-phy c = search counted_above
+returns-then-count-phy c =
+    let i = c.loop-entry.invariant in
+    let s = c.in-Some.ensures.steps in
+    counted_above _ _ _ _ i.3 _ _ s.1.0 (s.1.1 ∙ i.2) c.if-phy-low.false c.if-count-phy.true
 
-pub loop-i-preserved : goal.loop-i-preserved
-loop-i-preserved c = search counted_again
+pub loop-entry-preserved : goal.loop-entry-preserved
+loop-entry-preserved c =
+    let i = c.loop-entry.invariant in
+    let s = c.in-Some.ensures.steps in
+    let three = s.0 ∙ i.2 in
+    (omega arith, tt, three, counted_again _ _ _ _ i.3 _ _ s.1.0 (s.1.1 ∙ i.2) c.if-phy-low.false c.if-count-phy.false)
 
 pub returns : goal.returns
-returns c = search counted_end
+returns c =
+    let i = c.loop-entry.invariant in
+    let three = i.2 in
+    let short = c.in-None.ensures.steps.1.0 in
+    counted_end _ _ _ _ i.3 (omega arith)

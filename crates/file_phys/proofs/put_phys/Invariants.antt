@@ -1,5 +1,4 @@
 -- `file_phys::put_phys` meets its contract.
-use Prim.Native.Nat.{◌-◌}
 use Rattle.tables.specs.Phys.{phy_count}
 use Rattle.lines.proofs.Putting.{Putting}
 use Rattle.file_phys.specs.Block.{phy_entry}
@@ -7,6 +6,3 @@ use Rattle.file_phys.proofs.put_phys.Given as goal
 
 abbrev pub invariant-loop-phy : goal.invariant-loop-phy
 invariant-loop-phy l = Putting (phy_entry l.phys) 0 (phy_count l.phys) l.initial.file l.at l.file l.end l.phy
-
-abbrev pub decreases-loop-phy : goal.decreases-loop-phy
-decreases-loop-phy l = phy_count l.phys - l.phy

@@ -1,13 +1,9 @@
 -- `opens::byte20` meets its contract.
 use Rattle.opens.proofs.OpenSteps.{cleared, carried, managed, unmanaged, carried_fits, managed_fits}
-use native.Mathlib.Omega.{arith}
 use Rattle.opens.proofs.byte20.Goals as goal
 
 pub returns-then-not-is_participating : goal.returns-then-not-is_participating
 returns-then-not-is_participating c = search cleared
-
-pub overflow_mul-result : goal.overflow_mul-result
-overflow_mul-result c = omega (arith, c.type_inv.frame 20)
 
 pub overflow_add-result : goal.overflow_add-result
 overflow_add-result c = let b = c.type_inv.frame 20 in search carried_fits

@@ -1,9 +1,6 @@
 -- `phy_zone::all_sound` meets its contract: the descriptors passed are sound.
-use Rattle.phy_zone.proofs.PhyZoneLaws.{judged_start, judged_off, judged_again, judged_end}
+use Rattle.phy_zone.proofs.PhyZoneLaws.{judged_off, judged_again, judged_end}
 use Rattle.phy_zone.proofs.all_sound.Goals as goal
-
-pub loop-judged-init : goal.loop-judged-init
-loop-judged-init c = search judged_start
 
 pub returns-then-not-is_sound : goal.returns-then-not-is_sound
 returns-then-not-is_sound c = search judged_off

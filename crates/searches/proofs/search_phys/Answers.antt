@@ -1,14 +1,8 @@
 -- `searches::search_phys` meets its contract.
-use mathlib.Core.Path.{refl, ap}
+use mathlib.Core.Path.{ap}
 use mathlib.Core.Bool.{not}
-use Rattle.searches.proofs.SearchLaws.{agree_start, agree_again, phys_start, phys_other, phys_down, phys_here, phys_none}
+use Rattle.searches.proofs.SearchLaws.{agree_again, phys_other, phys_down, phys_here, phys_none}
 use Rattle.searches.proofs.search_phys.Goals as goal
-
-pub search-init : goal.search-init
-search-init c = search phys_start
-
-pub bytes-init : goal.bytes-init
-bytes-init c = (refl, agree_start _ _ _ _)
 
 pub search-preserved-then-phys-at : goal.search-preserved-then-phys-at
 search-preserved-then-phys-at c = search phys_other

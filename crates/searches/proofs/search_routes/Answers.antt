@@ -1,14 +1,8 @@
 -- `searches::search_routes` meets its contract.
-use mathlib.Core.Path.{refl, ap}
+use mathlib.Core.Path.{ap}
 use mathlib.Core.Bool.{not}
-use Rattle.searches.proofs.SearchLaws.{agree_start, agree_again, routes_start, routes_other, routes_down, routes_skipped, routes_here, routes_none}
+use Rattle.searches.proofs.SearchLaws.{agree_again, routes_other, routes_down, routes_skipped, routes_here, routes_none}
 use Rattle.searches.proofs.search_routes.Goals as goal
-
-pub search-init : goal.search-init
-search-init c = search routes_start
-
-pub bytes-init : goal.bytes-init
-bytes-init c = (refl, agree_start _ _ _ _)
 
 pub search-preserved-then-routes-at : goal.search-preserved-then-routes-at
 search-preserved-then-routes-at c = search routes_other

@@ -1,5 +1,5 @@
 -- `told_set::is_told` meets its contract.
-use Rattle.told_set.proofs.Chains.{judged_barred, judged_zero, judged_own, chain_there, judged_chain}
+use Rattle.told_set.proofs.Chains.{judged_barred, judged_zero, judged_own, judged_chain}
 use Rattle.told_set.proofs.is_told.Goals as goal
 
 pub returns-then-not-is_permitted : goal.returns-then-not-is_permitted
@@ -10,9 +10,6 @@ returns-then-address-eq0 c = search judged_zero
 
 pub returns-then-address-own : goal.returns-then-address-own
 returns-then-address-own c = search judged_own
-
-pub met-requires : goal.met-requires
-met-requires c = search chain_there
 
 pub returns : goal.returns
 returns c = search judged_chain

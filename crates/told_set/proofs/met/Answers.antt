@@ -1,15 +1,9 @@
 -- `told_set::met` meets its contract.
-use Rattle.told_set.proofs.Chains.{along_start, along_again, along_less, along_met, along_end}
+use Rattle.told_set.proofs.Chains.{along_again, along_met, along_end}
 use Rattle.told_set.proofs.met.Goals as goal
-
-pub loop-k-init : goal.loop-k-init
-loop-k-init c = search along_start
 
 pub returns-then-address_at-address : goal.returns-then-address_at-address
 returns-then-address_at-address c = search along_met
-
-pub loop-k-smaller : goal.loop-k-smaller
-loop-k-smaller c = search along_less
 
 pub loop-k-preserved : goal.loop-k-preserved
 loop-k-preserved c = search along_again

@@ -1,20 +1,13 @@
 -- `told_set::told_byte` meets its contract.
-use Rattle.told_set.proofs.Chains.{rise_start, rise_there, rise_room, rise_twice, rise_on, rise_off, rise_fits, rise_end}
-use borrow.Author.Rules.{rules}
+use Rattle.told_set.proofs.Chains.{rise_start, rise_room, rise_on, rise_off, rise_fits, rise_end}
 use Rattle.told_set.proofs.told_byte.Goals as goal
 use Rattle.told_set.proofs.told_byte.Goals.{then-told, else-told}
 
 pub loop-i-init : goal.loop-i-init
 loop-i-init c = search rise_start
 
-pub is_told-told-requires : goal.is_told-told-requires
-is_told-told-requires c = search (rules, rise_there)
-
 pub overflow_add-byte : goal.overflow_add-byte
 overflow_add-byte c = search rise_room
-
-pub overflow_add-bit : goal.overflow_add-bit
-overflow_add-bit c = search rise_twice
 
 pub loop-i-preserved : goal.loop-i-preserved
 loop-i-preserved c =

@@ -1,20 +1,12 @@
 -- `told_set::write_told_set` meets its contract.
-use Rattle.told_set.proofs.Chains.{tell_start, tell_room, tell_again, tell_end}
+use Rattle.told_set.proofs.Chains.{tell_start, tell_again, tell_end}
 use Prim.Native.Nat.{◌*◌, ◌≤◌, ◌<◌}
 use native.Mathlib.Omega.{arith}
 use Rattle.tables.specs.Phys.{phy_count}
-use borrow.Author.Rules.{rules}
 use Rattle.told_set.proofs.write_told_set.Goals as goal
 
 pub loop-k-init : goal.loop-k-init
 loop-k-init c = search tell_start
-
-pub told_byte-requires : goal.told_byte-requires
-told_byte-requires c = (search rules, search rules, search rules, c.loop-k.invariant.kept (omega arith))
-
-pub bounds-set-k : goal.bounds-set-k
-bounds-set-k c =
-    let h : 8 * c.loop-k.k < phy_count c.args.phys.now = omega arith in search tell_room
 
 pub loop-k-preserved : goal.loop-k-preserved
 loop-k-preserved c =

@@ -1,18 +1,17 @@
 -- `version_2::save_version_2_at` meets its contract.
-use native.Mathlib.Omega.{arith}
 use Rattle.tables.proofs.OutcomeLaws.{refuses}
 use Rattle.version_2.proofs.WholeSaves.{save_ready, save_short, save_gives}
 use borrow.Author.Rules.{rules}
 use Rattle.version_2.proofs.save_version_2_at.Goals as goal
 
-pub returns-then-no-ne0 : goal.returns-then-no-ne0
-returns-then-no-ne0 c = search refuses
+pub returns-in_err-check_save : goal.returns-in_err-check_save
+returns-in_err-check_save c = refuses _ _ _ _ _ _ _ c.from_residual.ensures.1 c.in_err-check_save.ensures
 
 pub write_file-end-requires : goal.write_file-end-requires
-write_file-end-requires c = save_ready _ _ _ _ _ (search rules) c.save_refusal-no.ensures (omega arith)
+write_file-end-requires c = save_ready _ _ _ _ (search rules) c.in_ok-check_save.ensures
 
 pub overflow_cast-result : goal.overflow_cast-result
-overflow_cast-result c = search save_short
+overflow_cast-result c = search (save_short, c.in_ok-check_save.ensures)
 
 pub returns : goal.returns
-returns c = search save_gives
+returns c = search (save_gives, c.in_ok-check_save.ensures)

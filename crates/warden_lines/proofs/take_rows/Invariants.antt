@@ -3,8 +3,8 @@ use Prim.Native.Nat.{◌-◌, ◌≤◌, ◌<◌}
 use lib.ListN.{length}
 use Rattle.warden_lines.proofs.take_rows.Given as goal
 
-abbrev pub invariant-loop-at : goal.invariant-loop-at
-invariant-loop-at l = (l.at ≤ length l.line) × (l.row < 64)
+abbrev pub invariant-loop-spot : goal.invariant-loop-spot
+invariant-loop-spot l = (l.spot.at ≤ length l.line) × (l.spot.row < 64)
 
-abbrev pub decreases-loop-at : goal.decreases-loop-at
-decreases-loop-at l = length l.line - l.at
+abbrev pub decreases-loop-spot : goal.decreases-loop-spot
+decreases-loop-spot l = length l.line - l.spot.at

@@ -1,25 +1,9 @@
 -- `zone_permission::check_batch` meets its contract.
 use Rattle.tables.proofs.RefusalLaws.{rows, held_above, held-at_most}
-use native.Mathlib.Omega.{arith}
 use Rattle.zone_permission.proofs.check_batch.Goals as goal
-
-pub overflow_cast-count : goal.overflow_cast-count
-overflow_cast-count c = omega (arith, c.type_inv.request 11)
-
-pub overflow_mul-count : goal.overflow_mul-count
-overflow_mul-count c = omega (arith, c.type_inv.request 11)
-
-pub overflow_add-count : goal.overflow_add-count
-overflow_add-count c = omega (arith, c.type_inv.request 11)
 
 pub returns-then-request-count-clause-number : goal.returns-then-request-count-clause-number
 returns-then-request-count-clause-number c = search rows depth 16
-
-pub overflow_cast-start : goal.overflow_cast-start
-overflow_cast-start c = omega (arith, c.type_inv.request 10)
-
-pub overflow_add-start : goal.overflow_add-start
-overflow_add-start c = omega (arith, c.type_inv.request 10, c.type_inv.request 11)
 
 pub returns-then-start-count-gt128-clause-number : goal.returns-then-start-count-gt128-clause-number
 returns-then-start-count-gt128-clause-number c = search rows depth 16

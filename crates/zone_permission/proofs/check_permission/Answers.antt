@@ -1,20 +1,10 @@
 -- `zone_permission::check_permission` meets its contract.
-use native.Mathlib.Omega.{arith}
 use Rattle.tables.proofs.RefusalLaws.{rows}
 use Rattle.zone_permission.proofs.PermissionLaws.{then_operation}
 use Rattle.zone_permission.proofs.check_permission.Goals as goal
 
 pub returns-then-not-has_right-clause-number : goal.returns-then-not-has_right-clause-number
 returns-then-not-has_right-clause-number c = search rows depth 16
-
-pub overflow_cast-request : goal.overflow_cast-request
-overflow_cast-request c = omega (arith, c.type_inv.request 3)
-
-pub overflow_mul-request : goal.overflow_mul-request
-overflow_mul-request c = omega (arith, c.type_inv.request 3)
-
-pub overflow_add-request : goal.overflow_add-request
-overflow_add-request c = omega (arith, c.type_inv.request 3)
 
 pub returns-then-request-clause-number : goal.returns-then-request-clause-number
 returns-then-request-clause-number c = search rows depth 16

@@ -2,8 +2,8 @@
 use Rattle.zonefile_text.proofs.ZonefileLaws.{version_said, refusal_said}
 use Rattle.zonefile_text.proofs.put_loaded.Goals as goal
 
-pub returns-in-Version : goal.returns-in-Version
-returns-in-Version c = search version_said
+pub returns-in-Ok : goal.returns-in-Ok
+returns-in-Ok c = search version_said
 
-pub returns-in-Refused : goal.returns-in-Refused
-returns-in-Refused c = search refusal_said
+pub returns-in-Err : goal.returns-in-Err
+returns-in-Err c = search refusal_said

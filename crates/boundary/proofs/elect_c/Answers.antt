@@ -1,6 +1,0 @@
--- `boundary::elect_c` meets its contract.
-use Rattle.boundary.proofs.Crossing.{crosses}
-use Rattle.boundary.proofs.elect_c.Goals as goal
-
-pub returns : goal.returns
-returns c = search crosses

@@ -1,5 +1,7 @@
 // Runs the bench rack on a stream of events: a window over the input is refilled and run, and what a run wrote is handed on, so that a call of
 // the system's serves many events: no limit on the length of the input. What is written is `bench_text`'s.
+// By hand: the tables, the window and the text are no fields of one struct, since a method that lends two fields behind its `&mut self` gets no proof ("the
+// borrow checker does not cover this function yet"), and copies of them would cost more than the runs.
 #![tactic(auto)]
 
 ghost use Rattle.std.specs.Prelude.{◌≡◌, ◌+◌, ◌<◌, ◌≤◌, length};
@@ -7,17 +9,17 @@ ghost use Rattle.std.specs.Prelude.{◌≡◌, ◌+◌, ◌<◌, ◌≤◌, leng
 use std::io::{Read, Write};
 use tables::PHY_RECORD;
 
-// The unread bytes of the window are those from `at` up to `have`; `number` is the next event's.
-#[derive(Clone, Copy)]
-struct Window {
+// Where the runs stand: the unread bytes of the window are those from `at` up to `have`; `number` is the next event's.
+#[derive(Clone, Copy, Debug, PartialEq, Eq)]
+struct Place {
     at: usize,
     have: usize,
     number: u64,
-    go: bool,
+    ghost unread: { at ≤ have },
 }
 
-// Runs the unread events and writes their lines, or refills the window where none is whole. The input's end is a refill that brings nothing. A write that
-// fails is passed over.
+// Runs the unread events and writes their lines, or refills the window where none is whole; answers whether there may be more. The input's end is a refill
+// that brings nothing. A write that fails is passed over.
 fn turn<R: Read, W: Write>(
     reader: &mut R,
     writer: &mut W,
@@ -25,35 +27,32 @@ fn turn<R: Read, W: Write>(
     permissions: &mut [u8],
     window: &mut [u8],
     text: &mut [u8],
-    number: u64,
-    at: usize,
-    have: usize,
-) -> Window
-    requires { (at ≤ have) × (have ≤ length window.old) × (number + length window.old < 18446744073709551616) }
-    ensures { (result.at ≤ result.have) × (result.have ≤ length window.new) × (number ≤ result.number) × (result.number ≤ number + length window.new) }
+    place: &mut Place,
+) -> bool
+    requires { (place.old.have ≤ length window.old) × (place.old.number + length window.old < 18446744073709551616) }
+    ensures { (place.new.have ≤ length window.new) × (place.old.number ≤ place.new.number) × (place.new.number ≤ place.old.number + length window.new) }
 {
+    let Place { at, have, number } = *place;
     let p = bench_text::run_events(phys, permissions, &window[at..have], number, text);
-    let taken = p.taken;
-    let used = p.used;
-    if 0 < taken {
-        let _ = writer.write_all(&text[0..used]);
-        return Window {
-            at: at + taken,
+    if 0 < p.taken {
+        let _ = writer.write_all(&text[..p.used]);
+        *place = Place {
+            at: at + p.taken,
             have,
             number: p.number,
-            go: true,
         };
+        return true;
     }
     let now_have = window::refill(reader, window, at, have);
-    Window {
+    *place = Place {
         at: 0,
         have: now_have,
         number,
-        go: have - at < now_have,
-    }
+    };
+    have - at < now_have
 }
 
-// Runs all events of the reader. `left` shows that the loop ends and that the numbers fit: no input has as many bytes.
+// Runs all events of the reader, and writes the end's line. Both bounds show that the loop ends and that the numbers fit: no input has as many bytes.
 fn events<R: Read, W: Write>(
     reader: &mut R,
     writer: &mut W,
@@ -65,32 +64,19 @@ fn events<R: Read, W: Write>(
 )
     requires { (length window.old ≡ 131072) × (64 ≤ length text.old) }
 {
-    let mut number = first;
-    let mut left = u64::MAX - first;
-    let mut at: usize = 0;
-    let mut have: usize = 0;
-    let mut go = true;
-    while left > 131072 && go {
-        left -= 1;
-        let w = turn(
-            reader,
-            writer,
-            phys,
-            permissions,
-            window,
-            text,
-            number,
-            at,
-            have,
-        );
-        left -= w.number - number;
-        number = w.number;
-        at = w.at;
-        have = w.have;
-        go = w.go;
+    let mut place = Place {
+        at: 0,
+        have: 0,
+        number: first,
+    };
+    for _ in 0..u64::MAX {
+        let full = u64::MAX - 131072 <= place.number;
+        if full || !turn(reader, writer, phys, permissions, window, text, &mut place) {
+            break;
+        }
     }
-    let n = bench_text::end_line(&window[at..have], number, text);
-    let _ = writer.write_all(&text[0..n]);
+    let n = bench_text::end_line(&window[place.at..place.have], place.number, text);
+    let _ = writer.write_all(&text[..n]);
 }
 
 // Runs the bench rack, from its start, on the events of the reader, and writes their lines.
@@ -100,8 +86,7 @@ pub fn run<R: Read, W: Write>(reader: &mut R, writer: &mut W) {
     let mut window = [0u8; 131072];
     let mut text = [0u8; 65536];
     let p = bench_text::begin(&mut phys, &mut permissions, &mut text);
-    let used = p.used;
-    let _ = writer.write_all(&text[0..used]);
+    let _ = writer.write_all(&text[..p.used]);
     events(
         reader,
         writer,

@@ -9,12 +9,10 @@ use std::io::Write;
 fn main(rt: HostRuntime) -> io::Result<()> {
     let mut sheet = [0u8; 88012];
     let mut text = [0u8; 88011];
-    let taken = whole_input::take_input(&mut rt.stdin(), &mut sheet);
-    let have = taken.have;
-    if !taken.whole {
+    let Ok(have) = whole_input::take_input(&mut rt.stdin(), &mut sheet) else {
         whole_input::say_unreadable(&mut rt.stdout());
         return Ok(());
-    }
-    let end = orders_text::orders_text(&sheet[0..have], &mut text);
-    rt.stdout().write_all(&text[0..end])
+    };
+    let end = orders_text::orders_text(&sheet[..have], &mut text);
+    rt.stdout().write_all(&text[..end])
 }

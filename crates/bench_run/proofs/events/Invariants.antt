@@ -1,9 +1,6 @@
--- `bench_run::events` is safe and ends: the number of the next event, with the turns and events that are left, fits.
-use Rattle.std.proofs.Common.{◌+◌, ◌≤◌, length}
+-- `bench_run::events` is safe and ends.
+use Rattle.std.proofs.Common.{◌≤◌, length}
 use Rattle.bench_run.proofs.events.Given as goal
 
-abbrev pub invariant-loop-left : goal.invariant-loop-left
-invariant-loop-left g l = (l.number + l.left ≤ 18446744073709551615) × (l.at ≤ l.have) × (l.have ≤ length l.window)
-
-abbrev pub decreases-loop-left : goal.decreases-loop-left
-decreases-loop-left g l = l.left
+abbrev pub invariant-loop : goal.invariant-loop
+invariant-loop g l = l.place.have ≤ length l.window

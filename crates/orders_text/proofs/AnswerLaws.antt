@@ -30,28 +30,15 @@ use Rattle.imports.specs.declared.cause.Cause.{Cause}
 use Rattle.imports.specs.Causes as causes
 use Rattle.exports.specs.Export.{sheet_text, export_checks, exported_as, export_out}
 use Rattle.exports.proofs.ExportLaws.{sheet_length}
-use Rattle.orders_text.specs.OrdersText.{line_word, colon, form_words, group_words, right_words, cause_words, stop_text, too_long_text, given, text_of, orders_text}
+use Rattle.orders_text.specs.OrdersText.{line_word, colon, cause_words, stop_text, too_long_text, given, text_of, orders_text}
 
--- ---- what is wrong with a line
-module _ (t : List ℕ) (at end : ℕ) (t₁ : List ℕ) where
-  pub form_cause : Wrote t at form_words end t₁ → Wrote t at (cause_words 1) end t₁ × (end ≤ at + 64)
-  unfolding cause_words form_words
-  form_cause w = (w, omega (arith, w.ends))
-
-  pub group_cause : Wrote t at group_words end t₁ → Wrote t at (cause_words 2) end t₁ × (end ≤ at + 64)
-  unfolding cause_words group_words
-  group_cause w = (w, omega (arith, w.ends))
-
-  pub right_cause : Wrote t at right_words end t₁ → Wrote t at (cause_words 3) end t₁ × (end ≤ at + 64)
-  unfolding cause_words right_words
-  right_cause w = (w, omega (arith, w.ends))
-
-pub stop_done : (number cause : ℕ) (t : List ℕ) (a : ℕ) (t₁ : List ℕ) (b : ℕ) (t₂ : List ℕ) (c : ℕ) (t₃ : List ℕ) (d : ℕ) (t₄ : List ℕ) (e : ℕ) (t₅ : List ℕ)
+pub stop_done : (number cause : ℕ) (t : List ℕ) (a : ℕ) (t₁ : List ℕ) (b : ℕ) (t₂ : List ℕ) (c : ℕ) (t₃ : List ℕ) (w : List ℕ) (d : ℕ) (t₄ : List ℕ) (e : ℕ) (t₅ : List ℕ)
     → Wrote t 0 line_word a t₁ → Wrote t₁ a (decimal number) b t₂ × (b ≤ a + 20) → Wrote t₂ b colon c t₃
-    → Wrote t₃ c (cause_words cause) d t₄ × (d ≤ c + 64) → Wrote t₄ d (10 ∷ []) e t₅ → Wrote t 0 (stop_text number cause) e t₅ × (e ≤ 128)
+    → (w ≡ cause_words cause) × (length w ≤ 64) → Wrote t₃ c w d t₄ → Wrote t₄ d (10 ∷ []) e t₅ → Wrote t 0 (stop_text number cause) e t₅ × (e ≤ 128)
 unfolding stop_text line_word colon
-stop_done number cause t a t₁ b t₂ c t₃ d t₄ e t₅ p q r s u =
-    (behind (behind (behind (behind p q.0) r) s.0) u, omega (arith, p.ends, r.ends, u.ends))
+stop_done number cause t a t₁ b t₂ c t₃ w d t₄ e t₅ p q r h s u =
+    let v : Wrote t₃ c (cause_words cause) d t₄ = rw (← h.0) s in
+    (behind (behind (behind (behind p q.0) r) v) u, omega (arith, p.ends, r.ends, s.ends, u.ends))
 
 -- ---- a call's answer that is a text's length, with the text at the front of its buffer
 pub answer_wrote : (s t : List ℕ) (n : ℕ) (t₁ : List ℕ) → length s ≤ length t

@@ -1,5 +1,5 @@
 // What the program `orders` answers to a sheet of orders: the pairs that they permit, as a sheet, or the line that failed and why. Each `put_`
-// answers where the text then ends. Long texts have a function each: side by side they are slow to prove.
+// answers where the text then ends.
 #![tactic(auto)]
 
 ghost use Rattle.std.specs.Prelude.{◌≡◌, ◌+◌, ◌≤◌, length};
@@ -8,7 +8,7 @@ ghost use Rattle.lines.specs.Written.{Wrote};
 ghost use Rattle.imports.specs.Causes as causes;
 ghost use Rattle.imports.specs.Steps.{Leaves};
 ghost use Rattle.exports.specs.Export.{sheet_text};
-ghost use Rattle.orders_text.specs.OrdersText.{form_words, group_words, right_words, cause_words, stop_text, too_long_text, given, orders_text};
+ghost use Rattle.orders_text.specs.OrdersText.{cause_words, stop_text, too_long_text, given, orders_text};
 
 use imports::Imported;
 use imports::cause::Cause;
@@ -17,40 +17,15 @@ use tables::PHY_RECORD;
 use tables::refusal::Refusal;
 use wire::PhyNumber;
 
-fn put_form(text: &mut [u8], at: usize) -> usize
-    requires { at + 64 ≤ length text.old }
-    ensures { Wrote text.old at form_words result text.new }
-{
-    lines::put_bytes(
-        b"expected GROUP,GROUP,1 or GROUP,GROUP,0 and the line's end",
-        text,
-        at,
-    )
-}
-
-fn put_no_such_group(text: &mut [u8], at: usize) -> usize
-    requires { at + 64 ≤ length text.old }
-    ensures { Wrote text.old at group_words result text.new }
-{
-    lines::put_bytes(b"a group is not from 2 to 127", text, at)
-}
-
-fn put_no_right(text: &mut [u8], at: usize) -> usize
-    requires { at + 64 ≤ length text.old }
-    ensures { Wrote text.old at right_words result text.new }
-{
-    lines::put_bytes(b"the caller has not the right to change zoning", text, at)
-}
-
 // What is wrong with a line, in words.
-fn put_cause(cause: Cause, text: &mut [u8], at: usize) -> usize
-    requires { at + 64 ≤ length text.old }
-    ensures { Wrote text.old at (cause_words (causes.number cause)) result text.new × (result ≤ at + 64) }
+#[tactic(auto, unfolding(crate::specs::OrdersText::cause_words, crate::specs::OrdersText::form_words, crate::specs::OrdersText::group_words, crate::specs::OrdersText::right_words))]
+fn cause_said(cause: Cause) -> &'static [u8]
+    ensures { (result.now ≡ cause_words (causes.number cause)) × (length result.now ≤ 64) }
 {
     match cause {
-        Cause::BadText => put_form(text, at),
-        Cause::NoSuchGroup => put_no_such_group(text, at),
-        Cause::NoRight => put_no_right(text, at),
+        Cause::BadText => b"expected GROUP,GROUP,1 or GROUP,GROUP,0 and the line's end",
+        Cause::NoSuchGroup => b"a group is not from 2 to 127",
+        Cause::NoRight => b"the caller has not the right to change zoning",
     }
 }
 
@@ -62,7 +37,7 @@ pub fn put_stop(number: u32, cause: Cause, text: &mut [u8]) -> usize
     let a = lines::put_bytes(b"line ", text, 0);
     let b = lines::put_decimal(number as u64, text, a);
     let c = lines::put_bytes(b": ", text, b);
-    let d = put_cause(cause, text, c);
+    let d = lines::put_bytes(cause_said(cause), text, c);
     lines::put_byte(b'\n', text, d)
 }
 

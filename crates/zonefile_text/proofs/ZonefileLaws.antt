@@ -134,11 +134,10 @@ unfolding save_said
 sheet_said_lem sheet t r t₁ h s = rw (le-leb (length sheet) 88011 h) s
 
 -- ---- why a file is refused, other than for the five that have words of their own
-pub pair_file : (e : Refusal) (t : List ℕ) (end : ℕ) (t₁ : List ℕ) → (e ≡ TooShort → ⊥) → (e ≡ IsVersion2 → ⊥) → (e ≡ VersionUnknown → ⊥)
-    → (e ≡ LengthsDisagree → ⊥) → (e ≡ OffsetDisagrees → ⊥) → Wrote t 0 pair_text end t₁ × (end ≤ 128)
-    → Wrote t 0 (refusal_text (number e)) end t₁ × (end ≤ 128)
+pub other_text : (e : Refusal) → (e ≡ TooShort → ⊥) → (e ≡ IsVersion2 → ⊥) → (e ≡ VersionUnknown → ⊥) → (e ≡ LengthsDisagree → ⊥)
+    → (e ≡ OffsetDisagrees → ⊥) → pair_text ≡ refusal_text (number e)
 unfolding refusal_text
-pair_file e t end t₁ d₁ d₂ d₃ d₄ d₅ w =
+other_text e d₁ d₂ d₃ d₄ d₅ =
     rw (
       ne_eqb (number e) 31 (λ q. d₁ (one_number e TooShort q)),
       ne_eqb (number e) 32 (λ q. d₂ (one_number e IsVersion2 q)),
@@ -146,7 +145,6 @@ pair_file e t end t₁ d₁ d₂ d₃ d₄ d₅ w =
       ne_eqb (number e) 34 (λ q. d₄ (one_number e LengthsDisagree q)),
       ne_eqb (number e) 35 (λ q. d₅ (one_number e OffsetDisagrees q)),
     )
-    w
 
 -- ---- a file
 version_sheet : (k n : ℕ) (file old p : List ℕ) → out (answer (n ∷ [])) (p ∷ []) ≡ outcome k (1 ∷ []) (old ∷ []) (loaded 16 (pairs_in file) ∷ [])

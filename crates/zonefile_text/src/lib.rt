@@ -1,5 +1,5 @@
 // What the program `zonefile` answers: to a sheet of orders the version 1 file of the table that they make, to such a file the sheet of its pairs, and
-// where there is none the words why. Each `put_` answers where the text then ends. Long texts have a function each: side by side they are slow to prove.
+// where there is none the words why. Each `put_` answers where the text then ends.
 #![tactic(auto)]
 
 ghost use Rattle.std.specs.Prelude.{◌≡◌, true, ◌||◌, ◌≤◌, length};
@@ -58,81 +58,29 @@ fn put_long_file(text: &mut [u8]) -> usize
     )
 }
 
-fn put_short_file(text: &mut [u8]) -> usize
-    requires { 128 ≤ length text.old }
-    ensures { Wrote text.old 0 short_file_text result text.new × (result ≤ 128) }
+// Why a file is refused, in words.
+fn refusal_said(refusal: Refusal) -> &'static [u8]
+    ensures { (result.now ≡ refusal_text (number refusal)) × (length result.now ≤ 128) }
 {
-    lines::put_bytes(b"a file has at least 12 bytes\n", text, 0)
+    match refusal {
+        Refusal::TooShort => b"a file has at least 12 bytes\n",
+        Refusal::IsVersion2 =>
+            b"this is a file of version 2, and only one of version 1 can be a sheet\n",
+        Refusal::VersionUnknown => b"the file is of a version that is neither 1 nor 2\n",
+        Refusal::LengthsDisagree =>
+            b"the file's trailer says another length, or another number of pairs, than the file has\n",
+        Refusal::OffsetDisagrees =>
+            b"the file's trailer says another offset of the first pair than 0\n",
+        _ =>
+            b"a pair in the file is not of groups from 2 to 127, the lower first, or not behind the pair before it\n",
+    }
 }
 
-fn put_version_2(text: &mut [u8]) -> usize
-    requires { 128 ≤ length text.old }
-    ensures { Wrote text.old 0 version2_text result text.new × (result ≤ 128) }
-{
-    lines::put_bytes(
-        b"this is a file of version 2, and only one of version 1 can be a sheet\n",
-        text,
-        0,
-    )
-}
-
-fn put_version(text: &mut [u8]) -> usize
-    requires { 128 ≤ length text.old }
-    ensures { Wrote text.old 0 version_text result text.new × (result ≤ 128) }
-{
-    lines::put_bytes(
-        b"the file is of a version that is neither 1 nor 2\n",
-        text,
-        0,
-    )
-}
-
-fn put_lengths(text: &mut [u8]) -> usize
-    requires { 128 ≤ length text.old }
-    ensures { Wrote text.old 0 lengths_text result text.new × (result ≤ 128) }
-{
-    lines::put_bytes(
-        b"the file's trailer says another length, or another number of pairs, than the file has\n",
-        text,
-        0,
-    )
-}
-
-fn put_offset(text: &mut [u8]) -> usize
-    requires { 128 ≤ length text.old }
-    ensures { Wrote text.old 0 offset_text result text.new × (result ≤ 128) }
-{
-    lines::put_bytes(
-        b"the file's trailer says another offset of the first pair than 0\n",
-        text,
-        0,
-    )
-}
-
-fn put_bad_pair(text: &mut [u8]) -> usize
-    requires { 128 ≤ length text.old }
-    ensures { Wrote text.old 0 pair_text result text.new × (result ≤ 128) }
-{
-    lines::put_bytes(
-        b"a pair in the file is not of groups from 2 to 127, the lower first, or not behind the pair before it\n",
-        text,
-        0,
-    )
-}
-
-// Why a file is refused.
 fn put_refusal(refusal: Refusal, text: &mut [u8]) -> usize
     requires { 128 ≤ length text.old }
     ensures { Wrote text.old 0 (refusal_text (number refusal)) result text.new × (result ≤ 128) }
 {
-    match refusal {
-        Refusal::TooShort => put_short_file(text),
-        Refusal::IsVersion2 => put_version_2(text),
-        Refusal::VersionUnknown => put_version(text),
-        Refusal::LengthsDisagree => put_lengths(text),
-        Refusal::OffsetDisagrees => put_offset(text),
-        _ => put_bad_pair(text),
-    }
+    lines::put_bytes(refusal_said(refusal), text, 0)
 }
 
 // The table's file. There is room, and a table that orders made is as a save asks, so it is not refused.

@@ -10,10 +10,8 @@ use std::str::from_utf8;
 
 // A path of the library is text.
 fn open(rt: &HostRuntime, path: &[u8]) -> io::Result<File> {
-    match from_utf8(path) {
-        Ok(text) => File::open(rt, text),
-        Err(_) => Err(Error::from(ErrorKind::InvalidFilename)),
-    }
+    let text = from_utf8(path).map_err(|_| Error::from(ErrorKind::InvalidFilename))?;
+    File::open(rt, text)
 }
 
 // The system's words for why a call failed, without the number that the library puts behind them.
@@ -37,10 +35,10 @@ fn fail<W: Write>(path: &[u8], error: Error, errors: &mut W) {
 fn one_file(rt: &HostRuntime, i: usize) -> bool {
     let mut name = [0u8; 4096];
     let n = rt.arg(i, &mut name).unwrap_or(0);
-    if n == 0 {
+    let path = &name[..n];
+    if path.is_empty() {
         return false;
     }
-    let path = &name[0..n];
     let mut file = match open(rt, path) {
         Ok(file) => file,
         Err(error) => {

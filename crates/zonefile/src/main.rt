@@ -2,21 +2,18 @@
 // the sheet of its pairs. Why there is none stands on standard error, and then nothing on standard output.
 #![tactic(auto)]
 
-ghost use Rattle.std.specs.Prelude.{◌≤◌, length};
-
 use std::env::{Env, FillError};
 use std::io;
 use std::io::Write;
 use zonefile_text::Text;
 
-// The word that the program was started with; none where it was not one, or is longer than any that is known.
-fn take_word(env: &impl Env, word: &mut [u8]) -> usize
-    ensures { result ≤ length word.new }
-{
+// The word that the program was started with; an empty one where it was not one, or is longer than any that is known.
+fn take_word<'a>(env: &impl Env, word: &'a mut [u8]) -> &'a [u8] {
     if has_more_words(env) {
-        return 0;
+        return &[];
     }
-    env.arg(1, word).unwrap_or(0)
+    let n = env.arg(1, word).unwrap_or(0);
+    &word[..n]
 }
 
 // Whether there is a word behind the first.
@@ -26,21 +23,21 @@ fn has_more_words(env: &impl Env) -> bool {
 }
 
 fn main(rt: HostRuntime) -> io::Result<()> {
-    let mut word = [0u8; 16];
+    let mut room = [0u8; 16];
     let mut input = [0u8; 88012];
     let mut text = [0u8; 88011];
-    let n = take_word(&rt, &mut word);
-    let mut have = 0;
-    if zonefile_text::is_way(&word[0..n]) {
-        let taken = whole_input::take_input(&mut rt.stdin(), &mut input);
-        have = taken.have;
-        if !taken.whole {
-            whole_input::say_unreadable(&mut rt.stderr());
-            return Ok(());
-        }
-    }
-    match zonefile_text::zone_text(&word[0..n], &input[0..have], &mut text) {
-        Text::Output(end) => rt.stdout().write_all(&text[0..end]),
-        Text::Errors(end) => rt.stderr().write_all(&text[0..end]),
+    let word = take_word(&rt, &mut room);
+    let taken = if zonefile_text::is_way(word) {
+        whole_input::take_input(&mut rt.stdin(), &mut input)
+    } else {
+        Ok(0)
+    };
+    let Ok(have) = taken else {
+        whole_input::say_unreadable(&mut rt.stderr());
+        return Ok(());
+    };
+    match zonefile_text::zone_text(word, &input[..have], &mut text) {
+        Text::Output(end) => rt.stdout().write_all(&text[..end]),
+        Text::Errors(end) => rt.stderr().write_all(&text[..end]),
     }
 }

@@ -88,10 +88,7 @@ pub fn write_head(response: &mut [u8], function: u8, said: FunctionResult, dword
     requires { 4 ≤ length response.old }
     ensures { response.new ≡ (0x41 ∷ function ∷ number said ∷ dwords ∷ []) ++ drop 4 response.old }
 {
-    response[0] = 0x41;
-    response[1] = function;
-    response[2] = u8::from(said);
-    response[3] = dwords;
+    response[..4].copy_from_slice(&[0x41, function, u8::from(said), dwords]);
 }
 
 // The whole response to a request that is turned down, and what it leaves: no phy is told, whatever the tables are.

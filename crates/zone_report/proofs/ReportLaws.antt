@@ -5,8 +5,9 @@ use mathlib.Core.List.{List, [], ◌∷◌, ◌++◌}
 use Prim.Native.Nat.{ℕ, ◌+◌, ◌*◌, ◌/◌, ◌≤◌}
 use native.Mathlib.Decide.{ℕ_discrete}
 use native.Mathlib.Omega.{arith}
-use lib.ListN.{length, take, drop, length-drop}
-use lib.Seq.{sets, sets-eq, paste, take_all, take_at, drop_at, drop-drop}
+use lib.ListN.{length, take, drop}
+use borrow.Rule.Slice.PartMut.{put_mid}
+use lib.Seq.{paste, take_all, take_at, drop_at, drop-drop}
 use Rattle.shown_rows.specs.ShownRows.{shown_rows}
 use Rattle.shown_rows.proofs.ShownLaws.{length-shown}
 use Rattle.tables.specs.Refusals.{first_refusal}
@@ -41,27 +42,23 @@ pasted : (h s response : List ℕ) (n : ℕ) → length h ≡ 12 → paste (h ++
 pasted h s response n e =
     rw (take_at h (drop 12 response) 12 e, ← drop-drop n 12 (h ++ drop 12 response), drop_at h (drop 12 response) 12 e, drop-drop n 12 response)
 
-twelve : (head response : List ℕ) (a b c d x y : ℕ) → 12 ≤ length response → head ≡ (a ∷ b ∷ c ∷ d ∷ []) ++ drop 4 response
-    → sets head 4 (0 ∷ 0 ∷ x ∷ y ∷ 0 ∷ 0 ∷ 0 ∷ 0 ∷ [])
-    ≡ (a ∷ b ∷ c ∷ d ∷ 0 ∷ 0 ∷ x ∷ y ∷ 0 ∷ 0 ∷ 0 ∷ 0 ∷ []) ++ drop 12 response
-twelve head response a b c d x y h e =
-    let more : List ℕ = 0 ∷ 0 ∷ x ∷ y ∷ 0 ∷ 0 ∷ 0 ∷ 0 ∷ [] in
-    let l : 8 ≤ length (drop 4 response) = simp length-drop (omega arith) in
-    ap (λ (s : List ℕ). sets s 4 more) e
-    ∙ ap (λ (s : List ℕ). a ∷ b ∷ c ∷ d ∷ s) (sets-eq more (drop 4 response) 0 l ∙ ap (λ (s : List ℕ). more ++ s) (drop-drop 8 4 response))
+twelve : (head middle response : List ℕ) (a b c d x y : ℕ) → head ≡ (a ∷ b ∷ c ∷ d ∷ []) ++ drop 4 response
+    → middle ≡ 0 ∷ 0 ∷ x ∷ y ∷ 0 ∷ 0 ∷ 0 ∷ 0 ∷ []
+    → put_mid 4 8 head middle ≡ (a ∷ b ∷ c ∷ d ∷ 0 ∷ 0 ∷ x ∷ y ∷ 0 ∷ 0 ∷ 0 ∷ 0 ∷ []) ++ drop 12 response
+twelve head middle response a b c d x y e em = rw (e, em, drop-drop 8 4 response)
 
-pub written : (w : ℕ) (permissions request response head response₁ : List ℕ) (count : ℕ) → 1020 ≤ length response → count ≡ row_count request
+pub written : (w : ℕ) (permissions request response head middle response₁ : List ℕ) (count : ℕ) → count ≡ row_count request
     → head ≡ (0x41 ∷ 0x51 ∷ 0x00 ∷ (2 + 4 * count) ∷ []) ++ drop 4 response
-    → response₁
-    ≡ paste (sets head 4 (0 ∷ 0 ∷ start_row request ∷ count ∷ 0 ∷ 0 ∷ 0 ∷ 0 ∷ [])) 12 (shown_rows w permissions (start_row request) count) (16 * count)
+    → middle ≡ 0 ∷ 0 ∷ start_row request ∷ count ∷ 0 ∷ 0 ∷ 0 ∷ 0 ∷ []
+    → response₁ ≡ paste (put_mid 4 8 head middle) 12 (shown_rows w permissions (start_row request) count) (16 * count)
     → response₁
     ≡ (0x41 ∷ 0x51 ∷ 0x00 ∷ (2 + 4 * row_count request) ∷ rows w permissions request) ++ drop (12 + 16 * row_count request) response
 unfolding rows
-written w permissions request response head response₁ count l ec eh e =
+written w permissions request response head middle response₁ count ec eh em e =
     let from : List ℕ = shown_rows w permissions (start_row request) count in
     e
     ∙ ap (λ (s : List ℕ). paste s 12 from (16 * count))
-    (twelve head response 0x41 0x51 0x00 (2 + 4 * count) (start_row request) count (omega arith) eh)
+    (twelve head middle response 0x41 0x51 0x00 (2 + 4 * count) (start_row request) count eh em)
     ∙ pasted (0x41 ∷ 0x51 ∷ 0x00 ∷ (2 + 4 * count) ∷ 0 ∷ 0 ∷ start_row request ∷ count ∷ 0 ∷ 0 ∷ 0 ∷ 0 ∷ []) from response (16 * count) refl
     ∙ rw (take_all (16 * count) from (omega (arith, length-shown w permissions (start_row request) count)), ec)
 

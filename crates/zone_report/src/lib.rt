@@ -53,14 +53,7 @@ fn write_report(width: usize, permissions: &[u8], request: &[u8], count: u8, res
     ensures { response.new ≡ (0x41 ∷ 0x51 ∷ 0x00 ∷ (2 + 4 * row_count request.now) ∷ rows width permissions.now request.now) ++ drop (12 + 16 * row_count request.now) response.old }
 {
     requests::write_head(response, 0x51, FunctionResult::Accepted, 2 + 4 * count);
-    response[4] = 0;
-    response[5] = 0;
-    response[6] = request[6];
-    response[7] = count;
-    response[8] = 0;
-    response[9] = 0;
-    response[10] = 0;
-    response[11] = 0;
+    response[4..12].copy_from_slice(&[0, 0, request[6], count, 0, 0, 0, 0]);
     shown_rows::report_rows(width, permissions, ZoneGroup(request[6]), count, response);
 }
 

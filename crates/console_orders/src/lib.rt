@@ -13,13 +13,13 @@ use wire::ZoneGroup;
 #[derive(Clone, Copy, Debug, PartialEq, Eq)]
 pub enum Refusal {
     // There is no room for the request, or for the rows.
-    NoRoom,
-    TooMany,
-    TooHigh,
+    NoRoom = 21,
+    TooMany = 22,
+    TooHigh = 23,
     // A shelf would fail the order.
-    WouldFail,
+    WouldFail = 24,
     // No shelf answers so.
-    NoResponse,
+    NoResponse = 25,
 }
 
 // Request 06's numbers.
@@ -27,13 +27,7 @@ impl From<Refusal> for u8 {
     ghost from_gives = { λ refusal n. n ≡ number refusal };
 
     fn from(refusal: Refusal) -> u8 {
-        match refusal {
-            Refusal::NoRoom => 21,
-            Refusal::TooMany => 22,
-            Refusal::TooHigh => 23,
-            Refusal::WouldFail => 24,
-            Refusal::NoResponse => 25,
-        }
+        refusal as u8
     }
 }
 

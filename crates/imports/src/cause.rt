@@ -6,21 +6,17 @@ ghost use Rattle.imports.specs.Causes.{number};
 #[derive(Clone, Copy, Debug, PartialEq, Eq)]
 pub enum Cause {
     // The text is no line, or has no line end.
-    BadText,
+    BadText = 1,
     // A group that no order may name.
-    NoSuchGroup,
+    NoSuchGroup = 2,
     // The caller has not the right.
-    NoRight,
+    NoRight = 3,
 }
 
 impl From<Cause> for u8 {
     ghost from_gives = { λ cause n. n ≡ number cause };
 
     fn from(cause: Cause) -> u8 {
-        match cause {
-            Cause::BadText => 1,
-            Cause::NoSuchGroup => 2,
-            Cause::NoRight => 3,
-        }
+        cause as u8
     }
 }

@@ -12,30 +12,22 @@ use wire::{PhyNumber, ZoneGroup};
 // What a response says in its byte 2.
 #[derive(Clone, Copy, Debug, PartialEq, Eq)]
 pub enum FunctionResult {
-    Accepted,
+    Accepted = 0x00,
     // Also what some rules say to a caller that has no right.
-    UnknownFunction,
-    Failed,
-    InvalidLength,
-    NoSuchPhy,
-    NoSuchIndex,
+    UnknownFunction = 0x01,
+    Failed = 0x02,
+    InvalidLength = 0x03,
+    NoSuchPhy = 0x10,
+    NoSuchIndex = 0x11,
     // The phy is there, but the caller does not reach its group.
-    Vacant,
+    Vacant = 0x16,
 }
 
 impl From<FunctionResult> for u8 {
     ghost from_gives = { λ said n. n ≡ number said };
 
     fn from(said: FunctionResult) -> u8 {
-        match said {
-            FunctionResult::Accepted => 0x00,
-            FunctionResult::UnknownFunction => 0x01,
-            FunctionResult::Failed => 0x02,
-            FunctionResult::InvalidLength => 0x03,
-            FunctionResult::NoSuchPhy => 0x10,
-            FunctionResult::NoSuchIndex => 0x11,
-            FunctionResult::Vacant => 0x16,
-        }
+        said as u8
     }
 }
 

@@ -7,60 +7,40 @@ ghost use Rattle.tables.specs.Numbers.{number};
 #[derive(Clone, Copy, Debug, PartialEq, Eq)]
 pub enum Refusal {
     // A table that the call uses has a size that document 01 does not name.
-    WrongSize,
+    WrongSize = 1,
     // The arriving phy is not below the number of phys.
-    NoSuchPhy,
+    NoSuchPhy = 2,
     // There is no room for what the call writes.
-    NoRoom,
+    NoRoom = 3,
     // A frame or a request has another length.
-    WrongLength,
+    WrongLength = 4,
     // A byte or a number that was handed in is none that the call takes.
-    WrongField,
+    WrongField = 5,
     // A broadcast frame arrived on a phy that is not participating.
-    NotParticipating,
+    NotParticipating = 6,
     // The arriving phy is not ready; for IDENTIFY, it is ready already.
-    WrongState,
+    WrongState = 7,
     // A response's length field would pass 255.
-    TooLong,
+    TooLong = 8,
     // Why a saved file is not loaded, in the order of checking.
-    TooShort,
-    IsVersion2,
-    VersionUnknown,
-    LengthsDisagree,
-    OffsetDisagrees,
-    PhyCountDisagrees,
-    BadPair,
-    BadPhy,
-    BadZone,
+    TooShort = 31,
+    IsVersion2 = 32,
+    VersionUnknown = 33,
+    LengthsDisagree = 34,
+    OffsetDisagrees = 35,
+    PhyCountDisagrees = 36,
+    BadPair = 37,
+    BadPhy = 38,
+    BadZone = 39,
     // Why a table is not saved.
-    PermissionsNotAsDescribed,
-    PhysNotAsDescribed,
+    PermissionsNotAsDescribed = 40,
+    PhysNotAsDescribed = 41,
 }
 
 impl From<Refusal> for u8 {
     ghost from_gives = { λ refusal n. n ≡ number refusal };
 
     fn from(refusal: Refusal) -> u8 {
-        match refusal {
-            Refusal::WrongSize => 1,
-            Refusal::NoSuchPhy => 2,
-            Refusal::NoRoom => 3,
-            Refusal::WrongLength => 4,
-            Refusal::WrongField => 5,
-            Refusal::NotParticipating => 6,
-            Refusal::WrongState => 7,
-            Refusal::TooLong => 8,
-            Refusal::TooShort => 31,
-            Refusal::IsVersion2 => 32,
-            Refusal::VersionUnknown => 33,
-            Refusal::LengthsDisagree => 34,
-            Refusal::OffsetDisagrees => 35,
-            Refusal::PhyCountDisagrees => 36,
-            Refusal::BadPair => 37,
-            Refusal::BadPhy => 38,
-            Refusal::BadZone => 39,
-            Refusal::PermissionsNotAsDescribed => 40,
-            Refusal::PhysNotAsDescribed => 41,
-        }
+        refusal as u8
     }
 }

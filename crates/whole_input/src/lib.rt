@@ -21,7 +21,7 @@ pub fn take_input<R: Read>(reader: &mut R, input: &mut [u8]) -> Result<usize, Un
     ensures end { IfOk result (λ have. have < length input.new → IsAtEnd (R.remaining reader.new)) }
 {
     let mut have: usize = 0;
-    // By hand: only a read says how far it came.
+    // By hand: the library's `read_to_end` wants a `Vec`, and `read_exact` does not say how much it read.
     while have < input.len() {
         match reader.read(&mut input[have..]) {
             Ok(0) => return Ok(have),

@@ -6,7 +6,7 @@ use Prim.Native.Nat.{ℕ, zero, suc, ◌+◌, ◌-◌, ◌≤◌, ◌<◌}
 use native.Mathlib.Nat.{add-zero, zero-add, not-suc-le-zero, le_of_suc-le-suc}
 use native.Mathlib.Numerals.{add-one}
 use native.Mathlib.Omega.{arith}
-use lib.ListN.{length, drop, get_or, set, replicate, length-set}
+use lib.ListN.{length, drop, get_or, set, length-set}
 use lib.Seq.{drop-cons, set_at, append_snoc}
 use Rattle.wire.specs.Bits.{tab}
 

@@ -136,9 +136,6 @@ module _ (f : ℕ → Bool) (a byte bit i : ℕ) (u : Up f a byte bit i) (h : i 
   pub up_room : byte + bit < 256
   up_room = omega (arith, up_power, up_byte)
 
-  pub up_twice : bit + bit < 65536
-  up_twice = omega (arith, up_power)
-
   up_more : (x : ℕ) → x ≡ bits_of f a (i - a) + num (f i) * 2 ^ (i - a) → Up f a x (bit + bit) (i + 1)
   up_more x e =
       let n : i + 1 - a ≡ suc (i - a) = omega (arith, u.from) in

@@ -57,7 +57,10 @@ pub fn copy(target: &mut [u8], at: usize, source: &[u8], from: usize, n: usize)
     requires { (at + n ≤ length target.old) × (from + n ≤ length source.now) }
     ensures { target.new ≡ paste target.old at (drop from source.now) n }
 {
-    target[at..at + n].copy_from_slice(&source[from..from + n]);
+    // By hand: of so many bytes as only the call knows the library's copy is a call of C's memmove, which the firmware has not.
+    for k in 0..n {
+        target[at + k] = source[from + k];
+    }
 }
 
 // The first n bytes become zero.

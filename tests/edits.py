@@ -19,7 +19,7 @@ UNKNOWN = 'of a kind that tests/edits.py does not list'
 KINDS = [
     (SHAPE, r'has no (field|member)? ?`|not in scope|takes no argument|stopped before the end of the file'),
     ('an arithmetic fact does not follow', r'^`omega`'),
-    ('no proof of a fact is found', r'^`search`: no proof of|^it is not proved that'),
+    ('no proof of a fact is found', r'^`search`: no proof of|^`grind` found no proof|^it is not proved that'),
     ('an equation does not follow from those known', r'equations had joined|the equations do not join'),
     ('what is left to show after rewriting is not shown', r'give a proof of that as the last argument|list the missing equation'),
     ('what is left to show is no equation of equal ends', r'must be a path whose two ends are equal'),
@@ -27,7 +27,7 @@ KINDS = [
     ('what is shown is another statement', r'the two (types|sides) (first )?differ|the two types are|expected type `'),
 ]
 FACTS = dict(KINDS[1:])
-WORDS = ('`search`', '`omega`', '`cc`', '`rw`', '`simp`')
+WORDS = ('`search`', '`grind`', '`omega`', '`cc`', '`rw`', '`simp`')
 
 
 def errors(log):
@@ -160,6 +160,7 @@ def can_fail():
     ONE, TWO = ('/x/proofs/Laws.antt:1:1: error: `%s`: ' % theorem for theorem in ('one', 'two'))
     samples = {
         'fact': '/p: error: `returns`: `search`: no proof of `a has no field `\n  was found.\n',
+        'grind': '/p: error: `returns`: `grind` found no proof. It did not look into `x`\n',
         'own_proof': 'fn a: proved\nnote: /src/lib.rt:1:1: it is not proved that what the function ensures holds (`returns`)\n',
         'later_shape': '/p: error: `x`: `omega`: it fails\n/p: error: `y`: record `lts.T` has no field `if1`\n',
         'no_field': '/p: error: `x`: record `lts.T` has no field `if1`\n/p: error: `y`: `omega`: it fails\n',

@@ -96,6 +96,15 @@ def can_tell():
     for was, now, names_then in samples:
         if own(was, now) != names_then:
             sys.exit(f'try_edits.py: of the made-up goals {was} and {now} the names are {own(was, now)}')
+    for word, then in (('x', 'y'), ('x-clause-one', 'y-clause-one'), ('z-clause-x', 'z-clause-x'), ('z', 'z')):
+        if called({'x': 'y'}, word) != then:
+            sys.exit(f'try_edits.py: the made-up word {word} is called {called({"x": "y"}, word)}')
+
+
+def called(new, word):
+    """What a word of an answer is called after an edit. Where a contract has several clauses, each has the goal by its own name behind it."""
+    goal, mark, clause = word.partition('-clause-')
+    return new.get(word, new.get(goal, goal) + mark + clause)
 
 
 def renamed(before, after, crate):
@@ -106,7 +115,7 @@ def renamed(before, after, crate):
         answers = crate / 'proofs' / function / 'Answers.antt'
         if (goals, steps) != (goals_now, steps_now) and answers.is_file():
             new = {name: steps_now.get(place, name) for place, name in steps.items() if name} | own(goals, goals_now)
-            made[answers.relative_to(crate)] = re.sub(r"[^\s(){}\[\].,;]+", lambda word: new.get(word[0], word[0]), answers.read_text())
+            made[answers.relative_to(crate)] = re.sub(r"[^\s(){}\[\].,;]+", lambda word: called(new, word[0]), answers.read_text())
     return made
 
 

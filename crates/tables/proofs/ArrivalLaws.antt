@@ -81,21 +81,26 @@ module _ (phys : List ℕ) (phy : ℕ) (sizes room awaited : Bool) where
   pub arrival_there : (r : ℕ) → r ≡ first_refusal (arrival_checks phys phy sizes room awaited) → r ≡ 0 → phy < phy_count phys
   arrival_there r e z = (arrived r e z).there
 
-  -- ---- a call's own rows stand behind these. As the code has it: s is what the call said of its other tables' sizes, and the shared rows are asked first
-  module _ (s : Bool) (es : s ≡ sizes) where
-    shared : (r : ℕ) → r ≡ first_refusal (arrival_checks phys phy s room awaited) → r ≡ first_refusal (arrival_checks phys phy sizes room awaited)
-    shared r e = e ∙ ap (λ (x : Bool). first_refusal (arrival_checks phys phy x room awaited)) es
+  -- ---- a call's own rows stand behind these. As the code has it: s is what the call said of its other tables' sizes, r the number of the
+  -- shared rows, n of the call's own
+  module _ (s : Bool) (r : ℕ) (es : s ≡ sizes) (e : r ≡ first_refusal (arrival_checks phys phy s room awaited)) where
+    shared : r ≡ first_refusal (arrival_checks phys phy sizes room awaited)
+    shared = e ∙ ap (λ (x : Bool). first_refusal (arrival_checks phys phy x room awaited)) es
 
+    pub arrival_front : (own : List Check) → (r ≡ 0 → ⊥) → r ≡ first_refusal (arrival_checks phys phy sizes room awaited ++ own)
+    arrival_front own h = front _ own r shared h
+
+  module _ (s : Bool) (es : s ≡ sizes) where
     -- they give the refusal e, which a `?` hands on in r
-    pub arrival_front : (own : List Check) (r : Result ⊤ Refusal) (e : Refusal) → IsErrAnd r (λ y. y ≡ e)
+    pub arrival_refused : (own : List Check) (r : Result ⊤ Refusal) (e : Refusal) → IsErrAnd r (λ y. y ≡ e)
         → number e ≡ first_refusal (arrival_checks phys phy s room awaited) → refused r ≡ first_refusal (arrival_checks phys phy sizes room awaited ++ own)
-    arrival_front own r e h q =
-        let p = err_from_is_err_and r h in rw (p.1, p.2) (front _ own (number e) (shared (number e) q) (number_above e))
+    arrival_refused own r e h q =
+        let p = err_from_is_err_and r h in rw (p.1, p.2) (arrival_front s (number e) es q own (number_above e))
 
     -- they give none, and the call's own give n
     pub arrival_back : (own : List Check) (n : ℕ) → 0 ≡ first_refusal (arrival_checks phys phy s room awaited) → n ≡ first_refusal own
         → n ≡ first_refusal (arrival_checks phys phy sizes room awaited ++ own)
-    arrival_back own n e en = back _ own 0 n numbered (shared 0 e) refl en
+    arrival_back own n e en = back _ own 0 n numbered (shared s 0 es e) refl en
 
   -- where neither gives a number, what the shared rows let pass is known, and so is what the call's own do
   pub arrival_clear : (own : List Check) (r : ℕ) → r ≡ first_refusal (arrival_checks phys phy sizes room awaited ++ own) → r ≡ 0

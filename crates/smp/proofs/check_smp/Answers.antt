@@ -1,14 +1,14 @@
 -- `smp::check_smp` meets its contract.
 use Rattle.wire.proofs.GroupLaws.{taken_group, taken_none}
 use Rattle.tables.proofs.RefusalLaws.{rows}
-use Rattle.tables.proofs.ArrivalLaws.{arrival_there, arrival_front, arrival_back}
+use Rattle.tables.proofs.ArrivalLaws.{arrival_there, arrival_refused, arrival_back}
 use Rattle.rules.proofs.RuleLaws.{passes, stays_within}
 use Rattle.smp.proofs.SmpLaws.{smp_table}
 use native.Mathlib.Omega.{arith}
 use Rattle.smp.proofs.check_smp.Goals as goal
 
 pub returns-in_err-check_arrival : goal.returns-in_err-check_arrival
-returns-in_err-check_arrival c = λ changes. arrival_front _ _ _ _ _ _ c.permissions_sized-sizes.ensures _ _ _ c.from_residual.ensures.1 c.in_err-check_arrival.ensures
+returns-in_err-check_arrival c = λ changes. arrival_refused _ _ _ _ _ _ c.permissions_sized-sizes.ensures _ _ _ c.from_residual.ensures.1 c.in_err-check_arrival.ensures
 
 pub returns-then-request-lt4 : goal.returns-then-request-lt4
 returns-then-request-lt4 c = search (arrival_back, c.in_ok-check_arrival.ensures, rows) depth 16

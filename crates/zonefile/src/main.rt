@@ -2,13 +2,17 @@
 // the sheet of its pairs. Why there is none stands on standard error, and then nothing on standard output.
 #![tactic(auto)]
 
+ghost use Rattle.std.specs.Prelude.{◌≤◌, length};
+
 use std::env::{Env, FillError};
 use std::io;
 use std::io::Write;
 use zonefile_text::Text;
 
 // The word that the program was started with; an empty one where it was not one, or is longer than any that is known.
-fn take_word<'a>(env: &impl Env, word: &'a mut [u8]) -> &'a [u8] {
+fn take_word<'a>(env: &impl Env, word: &'a mut [u8]) -> &'a [u8]
+    ensures { length result.now ≤ length word.old }
+{
     if has_more_words(env) {
         return &[];
     }

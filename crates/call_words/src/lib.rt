@@ -61,7 +61,7 @@ pub fn smp_words(
     );
     match answered {
         Ok(a) => lines::put_reply(u8::from(a.result), a.length, a.told, text, at),
-        Err(refusal) => refusal_words(refusal, text, at),
+        Err(why) => refusal_words(why, text, at),
     }
 }
 

@@ -87,6 +87,8 @@ pub fn same(a: &[u8], b: &[u8]) -> bool
     a == b
 }
 
+// Inline, since each line asks for several words that are known where they are asked for.
+#[inline]
 pub fn past_word(line: &[u8], at: usize, word: &[u8]) -> Option<usize>
     requires { at ≤ length line.now }
     ensures { (result ≡ cond (words.same (word_at line.now at) word.now) (Some (next_word line.now at)) None) × IfSome result (λ next. (at + length word.now ≤ next) × (next ≤ length line.now)) }

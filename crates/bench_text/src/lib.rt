@@ -70,6 +70,7 @@ pub fn run_events(
     let mut at: usize = 0;
     let mut next = number;
     let mut used: usize = 0;
+    // By hand: how long an event is, and whether its line has room, is known only once the one before it is run.
     while let Some(n) = next_event(&window[at..], text.len() - used) {
         let stop = at + n;
         used = put_event(phys, permissions, &window[at..stop], next, text, used);

@@ -107,8 +107,8 @@ fn put_pair(
     at
 }
 
-// A group with itself and every higher one. By hand here and in the other crate that puts pairs: one loop for both would ask of the function that it
-// is handed all that put_pair's contract says.
+// A group with itself and every higher one. The other crate that puts pairs has the like of this loop: one for both would ask of the function that
+// it is handed all that put_pair's contract says.
 fn put_row(width: usize, permissions: &[u8], a: ZoneGroup, text: &mut [u8], at: usize) -> usize
     requires { Table width permissions.now × (a.0 < groups width) × (at + length (row_text width permissions.now a.0) ≤ length text.old) }
     ensures { Wrote text.old at (row_text width permissions.now a.0) result text.new }

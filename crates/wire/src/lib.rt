@@ -82,7 +82,7 @@ fn eight_at(bytes: &[u8], at: usize) -> [u8; 8]
     eight
 }
 
-// The address in the eight bytes from `at` on: of their copy, by halves, so that it is one load and a byte swap.
+// The address in the eight bytes from `at` on: of their copy, so that it is one load and a byte swap.
 pub fn address_at(bytes: &[u8], at: usize) -> u64
     requires { at + 8 ≤ length bytes.now }
     ensures { result ≡ address_at bytes.now at }

@@ -10,17 +10,33 @@ use Rattle.std.proofs.Common.{Result, Ok, Err}
 use Rattle.std.specs.Bool.{⊤}
 use Rattle.std.specs.Result.{result_and}
 use Rattle.tables.specs.declared.refusal.Refusal.{Refusal}
-use Rattle.tables.specs.Numbers.{number, refused, answered}
+use Rattle.tables.specs.Numbers.{number, refused, answered_by, answered}
 use Rattle.tables.proofs.AnswerLaws.{number_above}
 use Rattle.tables.specs.Refusals.{Test, holds, Check, refuse, first_refusal, Clear}
 use Rattle.tables.specs.Outcome.{Answer, refusal, Out, out, outcome}
 use Rattle.tables.proofs.RefusalLaws.{Holds, Numbered, first, here, clear, front, back}
 use Rattle.tables.proofs.OutcomeLaws.{refused_keeps}
-use Rattle.boundary.specs.C.{given, fields, in_c, or_else}
+use Rattle.boundary.specs.C.{given, fields, InFields, in_c, or_else}
 
 -- ---- the library's answer a, told in the fields fs
 pub crosses : (k : ℕ) (fs : List ℕ) (a : Answer) (bs : List (List ℕ)) (o : Out) → fs ≡ fields k a → out a bs ≡ o → given fs bs ≡ in_c k o
 crosses k fs a bs o e q = ap (λ (x : List ℕ). given x bs) e ∙ ap (in_c k) q
+
+-- ---- what a call gave, where its refusal converts to one number alone
+module _ {A E : Type 0} (k : ℕ) (converts : E → ℕ → Type 0) (values : A → List ℕ) (n : E → ℕ) (one : (e : E) (m : ℕ) → converts e m → m ≡ n e) where
+  pub in_fields : (r : Result A E) (fs : List ℕ) → InFields k converts values r fs → fs ≡ fields k (answered_by n values r)
+  in_fields (Ok a) fs h = h
+  in_fields (Err e) fs (m, c, q) = q ∙ ap (λ (x : ℕ). fields k (refusal x)) (one e m c)
+
+-- a named refusal converts to its number: the fields are those of `linked_as`, `opened_as`, `told_as`
+pub named_in_fields : {A : Type 0} (k : ℕ) (values : A → List ℕ) (r : Result A Refusal) (fs : List ℕ) → InFields k (λ e m. m ≡ number e) values r fs
+    → fs ≡ fields k (answered values r)
+named_in_fields k values = in_fields k (λ e m. m ≡ number e) values number (λ e m c. c)
+
+-- a bare number converts to itself
+pub number_in_fields : {A : Type 0} (k : ℕ) (values : A → List ℕ) (r : Result A ℕ) (fs : List ℕ) → InFields k (λ e m. m ≡ e) values r fs
+    → fs ≡ fields k (answered_by (λ e. e) values r)
+number_in_fields k values = in_fields k (λ e m. m ≡ e) values (λ e. e) (λ e m c. c)
 
 -- ---- `or_else`, by the two cases
 pub else_same : (n own : ℕ) → (n ≡ 0 → ⊥) → n ≡ or_else n own

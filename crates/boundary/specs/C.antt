@@ -1,5 +1,5 @@
 -- What C gets. Document 01's outcomes in the fields of include/shelf.h and include/small.h; the quotes are of those headers.
-use Rattle.std.specs.Prelude.{Bool, true, ◌&&◌, List, [], ◌∷◌, ◌++◌, ℕ, zero, suc, leb, length}
+use Rattle.std.specs.Prelude.{◌≡◌, Bool, true, ◌&&◌, Result, Ok, Err, List, [], ◌∷◌, ◌++◌, ℕ, zero, suc, leb, length}
 use Rattle.wire.specs.Address.{address_at}
 use Rattle.permit.specs.Permission.{permissions_sized}
 use Rattle.tables.specs.Refusals.{Check, refuse, below, same, differ, off, first_refusal}
@@ -41,6 +41,11 @@ padded (suc k) (v ∷ vs) = v ∷ padded k vs
 abbrev pub fields : ℕ → Answer → List ℕ
 fields k (refusal n) = n ∷ padded k []
 fields k (answer vs) = 0 ∷ padded k vs
+
+-- the fields of what a call gave, whether its refusal is named or a bare number: its `values`, or a number that its refusal converts to
+abbrev pub InFields : {A E : Type 0} → ℕ → (E → ℕ → Type 0) → (A → List ℕ) → Result A E → List ℕ → Type 0
+InFields k converts values (Ok a) fs = fs ≡ fields k (answer (values a))
+InFields k converts values (Err e) fs = (n : ℕ) × converts e n × (fs ≡ fields k (refusal n))
 
 -- an outcome of document 01, as C gets it
 abbrev pub in_c : ℕ → Out → Given

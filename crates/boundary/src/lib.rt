@@ -7,12 +7,12 @@ ghost use Rattle.permit.specs.Permission.{Width};
 ghost use Rattle.tables.specs.Refusals.{first_refusal};
 ghost use Rattle.tables.specs.Outcome.{refusal};
 ghost use Rattle.tables.specs.Numbers.{number};
-ghost use Rattle.links.specs.Links.{linked_as, start_up_out, leaving_out, identify_front};
+ghost use Rattle.links.specs.Links.{start_up_out, leaving_out, identify_front};
 ghost use Rattle.election.specs.Election.{elected_as, elect_out};
-ghost use Rattle.opens.specs.Open.{opened_as, open_out};
-ghost use Rattle.broadcasts.specs.Broadcasts.{told_as, primitive_out, broadcast_out};
+ghost use Rattle.opens.specs.Open.{values_of, open_out};
+ghost use Rattle.broadcasts.specs.Broadcasts.{primitive_out, broadcast_out};
 ghost use Rattle.smp.specs.Smp.{answered_as};
-ghost use Rattle.boundary.specs.C.{given, fields, in_c, or_else, elected_fields, opened_fields, told_fields, answered_fields, bytes_fit, identify_out_c, all_fit, counted, smp_out_c};
+ghost use Rattle.boundary.specs.C.{given, fields, InFields, in_c, or_else, elected_fields, opened_fields, told_fields, answered_fields, bytes_fit, identify_out_c, all_fit, counted, smp_out_c};
 
 use discover::Changes;
 use election::Supervisor;
@@ -69,14 +69,16 @@ pub fn phy_of(n: u32) -> PhyNumber
 }
 
 // A refusal's number, as the answers have it.
-fn refusal_c(refusal: Refusal) -> u32
-    ensures { result ≡ number refusal }
+fn refusal_c<E: Into<u8>>(refusal: E) -> u32
+    ensures { E.converts refusal result }
 {
-    u8::from(refusal) as u32
+    let number: u8 = refusal.into();
+    number as u32
 }
 
-pub fn linked_c(linked: Result<(), Refusal>) -> u32
-    ensures { result ∷ [] ≡ fields 0 (linked_as linked) }
+// The three that are public take a refusal by name or as a bare number: who calls them from Rattle may have no more than the number.
+pub fn linked_c<E: Into<u8>>(linked: Result<(), E>) -> u32
+    ensures { InFields 0 E.converts (λ _. []) linked (result ∷ []) }
 {
     match linked {
         Ok(()) => 0,
@@ -102,8 +104,8 @@ fn elected_c(elected: Result<Supervisor, Refusal>) -> ElectedC
 }
 
 // The outcomes have document 01's numbers.
-pub fn opened_c(opened: Result<Opened, Refusal>) -> OpenedC
-    ensures { opened_fields result ≡ fields 2 (opened_as opened) }
+pub fn opened_c<E: Into<u8>>(opened: Result<Opened, E>) -> OpenedC
+    ensures { InFields 2 E.converts values_of opened (opened_fields result) }
 {
     match opened {
         Ok(Opened::NoDestination) => OpenedC {
@@ -134,8 +136,8 @@ pub fn opened_c(opened: Result<Opened, Refusal>) -> OpenedC
     }
 }
 
-pub fn told_c(told: Result<u8, Refusal>) -> ToldC
-    ensures { told_fields result ≡ fields 1 (told_as told) }
+pub fn told_c<E: Into<u8>>(told: Result<u8, E>) -> ToldC
+    ensures { InFields 1 E.converts (λ n. n ∷ []) told (told_fields result) }
 {
     match told {
         Ok(count) => ToldC {

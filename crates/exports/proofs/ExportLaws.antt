@@ -5,13 +5,14 @@ use mathlib.Core.Bool.{Bool, true, false, cond}
 use mathlib.Core.List.{List, [], ◌∷◌, ◌++◌}
 use Prim.Native.Nat.{ℕ, zero, suc, ◌+◌, ◌-◌, ◌*◌, ◌/◌, ◌%◌, ◌≤◌, ◌<◌}
 use native.Mathlib.Nat.{add-zero, zero-add}
-use native.Mathlib.Numerals.{add-one}
 use native.Mathlib.Decide.{dec_lt}
 use native.Mathlib.Omega.{arith}
 use borrow.Author.Tests.{not-false}
+use borrow.Rule.Slice.PartMut.{put_mid}
 use lib.ListN.{length, take, drop, set, length-take, length-append}
 use lib.Seq.{sets, sets-eq, set-set, set_comm, take-take, take-append_seam, append_snoc}
 use Rattle.std.proofs.Common.{Ok}
+use Rattle.std.proofs.lemmas.Slice.{put_mid-paste}
 use Rattle.permit.specs.Permission.{groups, permissions_sized, P, reaches, Width, Table}
 use Rattle.permit.proofs.Laws.{table_sized}
 use Rattle.permit.proofs.ReachLaws.{reach_held}
@@ -93,22 +94,21 @@ module _ (n : ℕ) where
       let e = bytes_of_lem (741353009 + 65536 * n - 655104 * (n / 10)) (48 + n / 100) (48 + n / 10 % 10) (48 + n % 10) 44 (omega arith) (omega arith) (omega arith) (omega arith) (omega arith) in
       (record { begins = rw f (ap (take 4) e); counts = sym (ap (λ (l : List ℕ). length l + 1) f) }, omega arith)
 
-pub put_four : (t : List ℕ) (at x y z w : ℕ)
-    → Wrote t at (x ∷ y ∷ z ∷ w ∷ []) (at + 4) (set (set (set (set t at x) (at + 1) y) (at + 2) z) (at + 3) w)
+pub put_four : (t : List ℕ) (at k x y z w : ℕ) (ys : List ℕ) → at + 4 ≤ length t → k ≡ 4 → ys ≡ x ∷ y ∷ z ∷ w ∷ []
+    → Wrote t at (x ∷ y ∷ z ∷ w ∷ []) (at + 4) (put_mid at k t ys)
 unfolding written
-put_four t at x y z w =
-    let e : at + 2 ≡ suc (suc at) = omega arith in
-    let f : at + 3 ≡ suc (suc (suc at)) = omega arith in
-    record { ends = refl; wrote = rw (add-one at, e, f) }
+put_four t at k x y z w ys h e p = record {
+  ends = refl;
+  wrote = put_mid-paste at k t ys (x ∷ y ∷ z ∷ w ∷ []) 4 p (sym e) refl ∙ sym (sets-eq (x ∷ y ∷ z ∷ w ∷ []) t at h);
+}
 
-pub field_put : (n : ℕ) (t : List ℕ) (at x k : ℕ) → FieldOf n x k × (k ≤ 4)
-    → FieldPut n t at (at + k)
-    (set (set (set (set t at (x % 256)) (at + 1) (x / 256 % 256)) (at + 2) (x / 65536 % 256)) (at + 3) (x / 16777216 % 256))
-field_put n t at x k f = record {
+pub field_put : (n : ℕ) (t : List ℕ) (at k x count : ℕ) (ys : List ℕ) → FieldOf n x count × (count ≤ 4) → at + 4 ≤ length t → k ≡ 4 → ys ≡ bytes_of x
+    → FieldPut n t at (at + count) (put_mid at k t ys)
+field_put n t at k x count ys f h e p = record {
   bytes = bytes_of x;
   four = refl;
   begins = f.0.begins;
-  put = (put_four t at (x % 256) (x / 256 % 256) (x / 65536 % 256) (x / 16777216 % 256)).wrote;
+  put = (put_four t at k (x % 256) (x / 256 % 256) (x / 65536 % 256) (x / 16777216 % 256) ys h e p).wrote;
   ends = ap (λ (m : ℕ). at + m) f.0.counts;
 }
 

@@ -59,11 +59,7 @@ fn put_field(n: u8, text: &mut [u8], at: usize) -> usize
     ensures { FieldPut n text.old at result text.new }
 {
     let field = field_of(n);
-    let bytes = field.bytes;
-    text[at] = (bytes % 256) as u8;
-    text[at + 1] = (bytes / 256 % 256) as u8;
-    text[at + 2] = (bytes / 65536 % 256) as u8;
-    text[at + 3] = (bytes / 16777216 % 256) as u8;
+    text[at..at + 4].copy_from_slice(&field.bytes.to_le_bytes());
     at + field.length
 }
 
@@ -72,10 +68,7 @@ fn put_end(text: &mut [u8], at: usize) -> usize
     requires { at + 4 ≤ length text.old }
     ensures { Wrote text.old at (comma ∷ figure 1 ∷ CR ∷ LF ∷ []) result text.new }
 {
-    text[at] = b',';
-    text[at + 1] = b'1';
-    text[at + 2] = CR;
-    text[at + 3] = LF;
+    text[at..at + 4].copy_from_slice(&[b',', b'1', CR, LF]);
     at + 4
 }
 

@@ -1,17 +1,7 @@
 -- `exports::put_end` meets its contract.
 use Rattle.exports.proofs.ExportLaws.{put_four}
 use native.Mathlib.Omega.{arith}
-use lib.ListN.{length-set}
 use Rattle.exports.proofs.put_end.Goals as goal
 
-pub bounds-text-at-2 : goal.bounds-text-at-2
-bounds-text-at-2 c = simp length-set (omega arith)
-
-pub bounds-text-at-3 : goal.bounds-text-at-3
-bounds-text-at-3 c = simp length-set (omega arith)
-
-pub bounds-text-at-4 : goal.bounds-text-at-4
-bounds-text-at-4 c = simp length-set (omega arith)
-
 pub returns : goal.returns
-returns c = search put_four
+returns c = put_four _ _ _ _ _ _ _ _ (omega arith) (omega arith) c.copy_from_slice.ensures.after

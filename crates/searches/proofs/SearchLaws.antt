@@ -7,13 +7,10 @@ use Prim.Native.Nat.{ℕ, zero, suc, ◌+◌, ◌-◌, ◌*◌, ◌<◌, ◌≤�
 use native.Mathlib.Numerals.{add-one}
 use native.Mathlib.Omega.{arith}
 use borrow.Author.Tests.{ltb-true, eq-eqb, ne_eqb, not-true, not-false}
-use lib.Dec.{eqb}
 use lib.ListN.{get_or}
 use Rattle.wire.specs.declared.PhyNumber.{PhyNumber}
 use Rattle.wire.specs.declared.ZoneGroup.{ZoneGroup}
 use Rattle.std.proofs.Common.{Option, Some, None}
-use Rattle.std.proofs.lemmas.Bool.Decides.{nat_tests}
-use Rattle.wire.specs.Address.{big_endian, address_at}
 use Rattle.wire.specs.Groups.{outside_group}
 use Rattle.wire.proofs.GroupLaws.{outside_number}
 use Rattle.wire.proofs.Loops.{left}
@@ -23,13 +20,32 @@ use Rattle.tables.proofs.ArrivalLaws.{both}
 use Rattle.searches.specs.declared.Destination.{Destination}
 use Rattle.searches.specs.Search.{same_bytes, zero_bytes, found, found_by, find_phy, usable, find_route, or_else, search}
 
--- ---- bytes that are zero: their address is
-zero_more : (high b : ℕ) → eqb (high * 256 + b) 0 ≡ (eqb b 0 && eqb high 0)
-zero_more high b = grind (arith, nat_tests)
+-- ---- bytes that are zero: those from k up are
+pub record Zeros (s : List ℕ) (i k : ℕ) : Type 0 where
+  pub within : k ≤ 8
+  pub rest : zero_bytes 8 s i ≡ zero_bytes k s i
 
-pub zero_address : (frame : List ℕ) (a : ℕ) → a ≡ address_at frame 4 → zero_bytes 8 frame 4 ≡ eqb a 0
-unfolding zero_bytes address_at big_endian
-zero_address frame a e = rw e (simp zero_more refl)
+pub zeros-start : (s : List ℕ) (i : ℕ) → Zeros s i 8
+zeros-start s i = record { within = omega arith; rest = refl }
+
+module _ (s : List ℕ) (i k : ℕ) (z : Zeros s i k) where
+  pub zeros_again : 0 < k → get_or s (i + (k - 1)) 0 ≡ 0 → Zeros s i (k - 1)
+  unfolding zero_bytes
+  zeros_again h e =
+      let p : k ≡ suc (k - 1) = omega arith in
+      record { within = omega arith; rest = z.rest ∙ ap (λ (m : ℕ). zero_bytes m s i) p ∙ rw (eq-eqb _ _ e) }
+
+  pub zeros_not : 0 < k → (get_or s (i + (k - 1)) 0 ≡ 0 → ⊥) → false ≡ zero_bytes 8 s i
+  unfolding zero_bytes
+  zeros_not h e =
+      let p : k ≡ suc (k - 1) = omega arith in
+      sym (z.rest ∙ ap (λ (m : ℕ). zero_bytes m s i) p ∙ rw (ne_eqb _ _ e))
+
+  pub zeros_end : k ≤ 0 → true ≡ zero_bytes 8 s i
+  unfolding zero_bytes
+  zeros_end h =
+      let p : k ≡ 0 = omega arith in
+      sym (z.rest ∙ ap (λ (m : ℕ). zero_bytes m s i) p)
 
 -- ---- bytes that are the same: those from k up are
 pub record Agree (s : List ℕ) (i : ℕ) (t : List ℕ) (j k : ℕ) : Type 0 where
@@ -150,20 +166,20 @@ module _ (phys routes frame : List ℕ) (n i j : ℕ) (w : RoutesLeft phys route
       ap (λ (x : ℕ). Some (record { phy = record { 0 = x }; group = g })) (ep ∙ ap (route_phy routes) q)
       ∙ sym (w.rest ∙ ap (find_route phys routes frame i) (left n i (omega arith)) ∙ rw (f, same_all routes (route_record * i) frame 4 k a e z, b))
 
--- ---- both tables, with a the address and f what the phy table gave
-module _ (phys routes frame : List ℕ) (a : ℕ) (ea : a ≡ address_at frame 4) where
-  pub search_zero : a ≡ 0 → None ≡ search phys routes frame
+-- ---- both tables, with z whether the address is zero and f what the phy table gave
+module _ (phys routes frame : List ℕ) (z : Bool) (ez : z ≡ zero_bytes 8 frame 4) where
+  pub search_zero : z ≡ true → None ≡ search phys routes frame
   unfolding search
-  search_zero h = rw (zero_address frame a ea, eq-eqb a 0 h)
+  search_zero h = rw (sym ez ∙ h)
 
-  module _ (f : Option Destination) (h : a ≡ 0 → ⊥) (ef : f ≡ find_phy phys frame 0 (phy_count phys)) where
+  module _ (f : Option Destination) (h : z ≡ false) (ef : f ≡ find_phy phys frame 0 (phy_count phys)) where
     pub search-first : (d : Destination) → f ≡ Some d → Some d ≡ search phys routes frame
     unfolding search
-    search-first d e = rw (zero_address frame a ea, ne_eqb a 0 h, sym ef ∙ e)
+    search-first d e = rw (sym ez ∙ h, sym ef ∙ e)
 
     pub search_second : (r : Option Destination) → f ≡ None → r ≡ find_route phys routes frame 0 (route_count routes) → r ≡ search phys routes frame
     unfolding search
-    search_second r e er = rw (zero_address frame a ea, ne_eqb a 0 h, sym ef ∙ e) er
+    search_second r e er = rw (sym ez ∙ h, sym ef ∙ e) er
 
 -- ---- what a search finds is a ready phy of the table, and a group
 abbrev Names : List ℕ → Option Destination → Type 0

@@ -4,7 +4,7 @@
 ghost use Rattle.std.specs.Prelude.{◌≡◌, ◌*◌, ◌≤◌, length};
 ghost use Rattle.tables.specs.Phys.{phy_record, phy_count};
 ghost use Rattle.tables.specs.Routes.{route_count};
-ghost use Rattle.searches.specs.Search.{usable, find_phy, find_route, search};
+ghost use Rattle.searches.specs.Search.{zero_bytes, usable, find_phy, find_route, search};
 
 use tables::{PHY_RECORD, ROUTE_RECORD};
 use wire::{PhyNumber, ZoneGroup};
@@ -96,12 +96,26 @@ fn search_routes(phys: &[u8], routes: &[u8], frame: &[u8]) -> Option<Destination
     }
 }
 
-// Where the frame is to go: by the phy table, failing that by the route table. Address zero matches nothing.
+// Whether the frame's destination is address zero, which matches nothing. It is asked byte by byte: of one number that is made of
+// the eight bytes a compiler takes each byte apart again for the searches, and keeps all of them.
+fn is_zero_address(frame: &[u8]) -> bool
+    requires { length frame.now ≡ 28 }
+    ensures { result ≡ zero_bytes 8 frame.now 4 }
+{
+    for k in (0..8).rev() {
+        if frame[4 + k] != 0 {
+            return false;
+        }
+    }
+    true
+}
+
+// Where the frame is to go: by the phy table, failing that by the route table.
 pub fn search(phys: &[u8], routes: &[u8], frame: &[u8]) -> Option<Destination>
     requires { (length phys.now ≤ 128 * phy_record) × (length frame.now ≡ 28) }
     ensures { result ≡ search phys.now routes.now frame.now }
 {
-    if wire::address_at(frame, 4) == 0 {
+    if is_zero_address(frame) {
         return None;
     }
     let Some(found) = search_phys(phys, frame) else {

@@ -278,13 +278,12 @@ fn line_at(sheet: &[u8], at: usize) -> Option<SheetLine>
     if sheet.len() <= at {
         return None;
     }
-    if sheet.len() - at < 11 {
-        return any_line_at(sheet, at);
+    if 11 <= sheet.len() - at {
+        if let Some(line) = short_line_at(sheet, at) {
+            return Some(line);
+        }
     }
-    match short_line_at(sheet, at) {
-        Some(line) => Some(line),
-        None => any_line_at(sheet, at),
-    }
+    any_line_at(sheet, at)
 }
 
 // A line reader: the sheet, and where the next line starts. Its methods are thin; `read_line` serves every other caller.

@@ -76,6 +76,15 @@ fn refusal_c<E: Into<u8>>(refusal: E) -> u32
     number as u32
 }
 
+// The same of a named refusal, for the calls that have many. It is not inlined: the numbers, which the compiler looks up, are then in an archive
+// once, and a byte each.
+#[inline(never)]
+pub fn number_of(why: Refusal) -> u8
+    ensures { result ≡ number why }
+{
+    u8::from(why)
+}
+
 // The three that are public take a refusal by name or as a bare number: who calls them from Rattle may have no more than the number.
 pub fn linked_c<E: Into<u8>>(linked: Result<(), E>) -> u32
     ensures { InFields 0 E.converts (λ _. []) linked (result ∷ []) }
@@ -162,7 +171,7 @@ fn answered_c(answered: Result<Answered, Refusal>) -> AnsweredC
             count: answered.told as u32,
         },
         Err(refusal) => AnsweredC {
-            refusal: refusal_c(refusal),
+            refusal: number_of(refusal) as u32,
             result: 0,
             length: 0,
             count: 0,

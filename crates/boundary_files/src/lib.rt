@@ -52,7 +52,7 @@ fn loaded_c(loaded: Result<Version, Refusal>) -> LoadedC
             version: u16::from(version) as u32,
         },
         Err(refusal) => LoadedC {
-            refusal: u8::from(refusal) as u32,
+            refusal: boundary::number_of(refusal) as u32,
             version: 0,
         },
     }

@@ -42,7 +42,7 @@ fn imported_c(imported: Result<Imported, Refusal>) -> ImportedC
             cause: 0,
         },
         Err(refusal) => ImportedC {
-            refusal: u8::from(refusal) as u32,
+            refusal: boundary::number_of(refusal) as u32,
             lines: 0,
             cause: 0,
         },

@@ -76,8 +76,8 @@ fn refusal_c<E: Into<u8>>(refusal: E) -> u32
     number as u32
 }
 
-// The same of a named refusal, for the calls that have many. It is not inlined: the numbers, which the compiler looks up, are then in an archive
-// once, and a byte each.
+// The same of a named refusal, for the answers of SMP, of imports and of loads. It is not inlined, so that the table in which the compiler looks
+// the numbers up is in an archive once.
 #[inline(never)]
 pub fn number_of(why: Refusal) -> u8
     ensures { result ≡ number why }

@@ -96,8 +96,8 @@ fn search_routes(phys: &[u8], routes: &[u8], frame: &[u8]) -> Option<Destination
     }
 }
 
-// Whether the frame's destination is address zero, which matches nothing. It is asked byte by byte: of one number that is made of
-// the eight bytes a compiler takes each byte apart again for the searches, and keeps all of them.
+// Whether the frame's destination is address zero, which matches nothing. It is asked byte by byte: from one number made of the eight bytes
+// the compiler takes each byte out again for the searches, and keeps all eight on the stack.
 fn is_zero_address(frame: &[u8]) -> bool
     requires { length frame.now ≡ 28 }
     ensures { result ≡ zero_bytes 8 frame.now 4 }

@@ -94,7 +94,7 @@ fn put_request(request: &[u8], text: &mut [u8]) -> usize
     end_list(text, at)
 }
 
-// Inline, so that the length of an order that was just built is known where its bytes are put: a short order takes two thirds of the steps.
+// Inline, so that the length of an order that was just built is known where its bytes are put: a short order takes two thirds of the instructions.
 #[inline]
 pub fn put_built(built: Result<u16, Refusal>, request: &[u8], number: u64, text: &mut [u8]) -> usize
     requires { (built_length built ≤ length request.now) × (length request.now ≤ 1020) × (65536 ≤ length text.old) }

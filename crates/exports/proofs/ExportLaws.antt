@@ -5,6 +5,7 @@ use mathlib.Core.Bool.{Bool, true, false, cond}
 use mathlib.Core.List.{List, [], ◌∷◌, ◌++◌}
 use Prim.Native.Nat.{ℕ, zero, suc, ◌+◌, ◌-◌, ◌*◌, ◌/◌, ◌%◌, ◌≤◌, ◌<◌}
 use native.Mathlib.Nat.{add-zero, zero-add}
+use native.Mathlib.Numerals.{add-one}
 use native.Mathlib.Decide.{dec_lt}
 use native.Mathlib.Omega.{arith}
 use borrow.Author.Tests.{not-false}
@@ -94,23 +95,42 @@ module _ (n : ℕ) where
       let e = bytes_of_lem (741353009 + 65536 * n - 655104 * (n / 10)) (48 + n / 100) (48 + n / 10 % 10) (48 + n % 10) 44 (omega arith) (omega arith) (omega arith) (omega arith) (omega arith) in
       (record { begins = rw f (ap (take 4) e); counts = sym (ap (λ (l : List ℕ). length l + 1) f) }, omega arith)
 
-pub put_four : (t : List ℕ) (at k x y z w : ℕ) (ys : List ℕ) → at + 4 ≤ length t → k ≡ 4 → ys ≡ x ∷ y ∷ z ∷ w ∷ []
-    → Wrote t at (x ∷ y ∷ z ∷ w ∷ []) (at + 4) (put_mid at k t ys)
+-- four bytes, put one by one
+pub put_four : (t : List ℕ) (at x y z w : ℕ)
+    → Wrote t at (x ∷ y ∷ z ∷ w ∷ []) (at + 4) (set (set (set (set t at x) (at + 1) y) (at + 2) z) (at + 3) w)
 unfolding written
-put_four t at k x y z w ys h e p = record {
-  ends = refl;
-  wrote = put_mid-paste at k t ys (x ∷ y ∷ z ∷ w ∷ []) 4 p (sym e) refl ∙ sym (sets-eq (x ∷ y ∷ z ∷ w ∷ []) t at h);
-}
+put_four t at x y z w =
+    let e : at + 2 ≡ suc (suc at) = omega arith in
+    let f : at + 3 ≡ suc (suc (suc at)) = omega arith in
+    record { ends = refl; wrote = rw (add-one at, e, f) }
 
-pub field_put : (n : ℕ) (t : List ℕ) (at k x count : ℕ) (ys : List ℕ) → FieldOf n x count × (count ≤ 4) → at + 4 ≤ length t → k ≡ 4 → ys ≡ bytes_of x
-    → FieldPut n t at (at + count) (put_mid at k t ys)
-field_put n t at k x count ys f h e p = record {
+-- a field's, put one by one
+pub field_put : (n : ℕ) (t : List ℕ) (at x k : ℕ) → FieldOf n x k × (k ≤ 4)
+    → FieldPut n t at (at + k)
+    (set (set (set (set t at (x % 256)) (at + 1) (x / 256 % 256)) (at + 2) (x / 65536 % 256)) (at + 3) (x / 16777216 % 256))
+field_put n t at x k f = record {
   bytes = bytes_of x;
   four = refl;
   begins = f.0.begins;
-  put = (put_four t at k (x % 256) (x / 256 % 256) (x / 65536 % 256) (x / 16777216 % 256) ys h e p).wrote;
+  put = (put_four t at (x % 256) (x / 256 % 256) (x / 65536 % 256) (x / 16777216 % 256)).wrote;
   ends = ap (λ (m : ℕ). at + m) f.0.counts;
 }
+
+-- As the code puts them: ys are the four, and the text's k bytes from `at` on become these at once. It is the same text.
+four_at_once : (t : List ℕ) (at k x y z w : ℕ) (ys : List ℕ) → at + 4 ≤ length t → k ≡ 4 → ys ≡ x ∷ y ∷ z ∷ w ∷ []
+    → put_mid at k t ys ≡ set (set (set (set t at x) (at + 1) y) (at + 2) z) (at + 3) w
+unfolding written
+four_at_once t at k x y z w ys h e p =
+    put_mid-paste at k t ys (x ∷ y ∷ z ∷ w ∷ []) 4 p (sym e) refl ∙ sym (sets-eq (x ∷ y ∷ z ∷ w ∷ []) t at h) ∙ sym (put_four t at x y z w).wrote
+
+pub put_four_at_once : (t : List ℕ) (at k x y z w : ℕ) (ys : List ℕ) → at + 4 ≤ length t → k ≡ 4 → ys ≡ x ∷ y ∷ z ∷ w ∷ []
+    → Wrote t at (x ∷ y ∷ z ∷ w ∷ []) (at + 4) (put_mid at k t ys)
+put_four_at_once t at k x y z w ys h e p = rw (four_at_once t at k x y z w ys h e p) (put_four t at x y z w)
+
+pub field_put_at_once : (n : ℕ) (t : List ℕ) (at k x count : ℕ) (ys : List ℕ) → FieldOf n x count × (count ≤ 4) → at + 4 ≤ length t → k ≡ 4
+    → ys ≡ bytes_of x → FieldPut n t at (at + count) (put_mid at k t ys)
+field_put_at_once n t at k x count ys f h e p =
+    rw (four_at_once t at k (x % 256) (x / 256 % 256) (x / 65536 % 256) (x / 16777216 % 256) ys h e p) (field_put n t at x count f)
 
 -- what is put behind a field, or from its comma on, is put over the rest of the four bytes
 module _ (n : ℕ) (t : List ℕ) (at i : ℕ) (t₁ : List ℕ) (p : FieldPut n t at i t₁) (bytes : List ℕ) (end : ℕ) (t₂ : List ℕ) where

@@ -7,10 +7,13 @@ use Prim.Native.Nat.{ℕ, zero, suc, ◌+◌, ◌-◌, ◌*◌, ◌<◌, ◌≤�
 use native.Mathlib.Numerals.{add-one}
 use native.Mathlib.Omega.{arith}
 use borrow.Author.Tests.{ltb-true, eq-eqb, ne_eqb, not-true, not-false}
+use lib.Dec.{eqb}
 use lib.ListN.{get_or}
 use Rattle.wire.specs.declared.PhyNumber.{PhyNumber}
 use Rattle.wire.specs.declared.ZoneGroup.{ZoneGroup}
 use Rattle.std.proofs.Common.{Option, Some, None}
+use Rattle.std.proofs.lemmas.Bool.Decides.{nat_tests}
+use Rattle.wire.specs.Address.{big_endian, address_at}
 use Rattle.wire.specs.Groups.{outside_group}
 use Rattle.wire.proofs.GroupLaws.{outside_number}
 use Rattle.wire.proofs.Loops.{left}
@@ -46,6 +49,14 @@ module _ (s : List ℕ) (i k : ℕ) (z : Zeros s i k) where
   zeros_end h =
       let p : k ≡ 0 = omega arith in
       sym (z.rest ∙ ap (λ (m : ℕ). zero_bytes m s i) p)
+
+-- for who has the address as a number: the bytes are zero where it is
+zero_more : (high b : ℕ) → eqb (high * 256 + b) 0 ≡ (eqb b 0 && eqb high 0)
+zero_more high b = grind (arith, nat_tests)
+
+pub zero_address : (frame : List ℕ) (a : ℕ) → a ≡ address_at frame 4 → zero_bytes 8 frame 4 ≡ eqb a 0
+unfolding zero_bytes address_at big_endian
+zero_address frame a e = rw e (simp zero_more refl)
 
 -- ---- bytes that are the same: those from k up are
 pub record Agree (s : List ℕ) (i : ℕ) (t : List ℕ) (j k : ℕ) : Type 0 where
